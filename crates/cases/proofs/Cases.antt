@@ -1,0 +1,10 @@
+-- Every row of the table holds, by computation.
+-- Assumes nothing.
+use mathlib.Core.Path.{refl}
+use Rattle.words.specs.Words.{rotateRight}
+use Rattle.layers.specs.Layer.{product, fold, nextKey, round}
+use Rattle.cases.specs.Table.{Table}
+
+pub cases : Table
+unfolding round product fold nextKey rotateRight
+cases = record { round-key-0 = refl; round-key-2 = refl; round-key-f-l = refl; round-key-f-r = refl }

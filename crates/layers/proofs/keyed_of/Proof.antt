@@ -1,0 +1,62 @@
+-- `layers::keyed_of` meets its contract.
+-- Assumes nothing.
+use mathlib.Core.Path.{_≡_}
+use Prim.Native.Nat.{_+_, _/_}
+use native.Mathlib.Omega.{arith}
+use borrow.Author.Needs.{needs}
+use Rattle.layers.specs.InnerRows.{rowOf}
+use Rattle.layers.proofs.RowLaws.{half, four-rounds, rounds-of-row}
+use Rattle.layers.proofs.keyed_of.Statement.{statement}
+use Rattle.layers.proofs.keyed_of.Tie as tie
+
+row-of-requires : tie.Need-row-of-requires
+row-of-requires c κs = search needs
+
+halved : (c : tie.After-row-of) → c .row-of .result .bits / 2 ≡ c .before .args .layer + 1
+halved c = half (c .before .args .layer) (c .row-of .result) (c .row-of .ensures)
+
+next-key-requires : tie.Need-next-key-requires
+next-key-requires c κs = omega (arith, halved (c .before))
+
+next-key-requires-2 : tie.Need-next-key-requires-2
+next-key-requires-2 c κs = omega (arith, halved (c .before .before))
+
+next-key-requires-3 : tie.Need-next-key-requires-3
+next-key-requires-3 c κs = omega (arith, halved (c .before .before .before))
+
+next-key-requires-4 : tie.Need-next-key-requires-4
+next-key-requires-4 c κs = omega (arith, halved (c .before .before .before .before))
+
+sub-t9 : tie.Need-sub-t9
+sub-t9 c =
+    let read = c .before .before .before .before .before .before in
+    omega (arith, rounds-of-row _ _ (read .row-of .ensures), four-rounds (read .before .args .layer))
+
+returns : tie.Need-returns
+unfolding rowOf
+returns c =
+    let fourth = c .before in
+    let third = fourth .before in
+    let second = third .before in
+    let first = second .before in
+    let read = first .before .before in
+    rw (
+      fourth .next-key4 .ensures,
+      third .next-key3 .ensures,
+      second .next-key2 .ensures,
+      first .next-key .ensures,
+      halved read,
+      read .row-of .ensures,
+    )
+
+pub keyed-of-spec : {M : Type 1} → statement M
+keyed-of-spec =
+    tie.close
+    (tie.spec
+    row-of-requires
+    next-key-requires
+    next-key-requires-2
+    next-key-requires-3
+    next-key-requires-4
+    sub-t9
+    returns)

@@ -1,0 +1,5 @@
+pub mod Layer
+pub mod Calls
+pub mod KeyedLayers
+pub mod InnerRows
+pub mod InnerRounds

@@ -1,0 +1,108 @@
+// The layers of document 01: each a permutation of 0..4^(j+1), made of Feistel rounds.
+mod feistel;
+mod rows;
+
+ghost use mathlib.Core.Path.{_≡_};
+ghost use Prim.Native.Nat.{_<_};
+ghost use Rattle.layers.specs.Calls.{told, layerApply};
+ghost use Rattle.layers.specs.KeyedLayers.{toldKeyed, keyedLayer, keyed, applied};
+use feistel::Halves;
+
+// What a layer answers: the output, or a refusal with its number.
+pub enum Applied {
+    Output(u32),
+    Refused(u32),
+}
+
+// A layer under a key, made once and applied many times: the bits of a half, the size, how many rounds are more than
+// four, the keys of the first four rounds and the key after them.
+pub struct KeyedLayer {
+    pub half: u32,
+    pub size: u32,
+    pub more: u32,
+    pub k0: u64,
+    pub k1: u64,
+    pub k2: u64,
+    pub k3: u64,
+    pub k4: u64,
+}
+
+// A keyed layer, or a refusal with its number.
+pub enum Keyed {
+    Made(KeyedLayer),
+    Refused(u32),
+}
+
+// The record of a layer, from its row.
+fn keyed_of(layer: usize, key: u64) -> KeyedLayer
+    requires { ⌜ layer < 15 ⌝ }
+    ensures { λ f. ⌜ f ≡ keyedLayer layer key ⌝ }
+{
+    let row = rows::row_of(layer);
+    let h = row.bits / 2;
+    let k1 = feistel::next_key(h, key);
+    let k2 = feistel::next_key(h, k1);
+    let k3 = feistel::next_key(h, k2);
+    let k4 = feistel::next_key(h, k3);
+    KeyedLayer {
+        half: h,
+        size: row.size,
+        more: row.rounds - 4,
+        k0: key,
+        k1,
+        k2,
+        k3,
+        k4,
+    }
+}
+
+impl KeyedLayer {
+    // The highest layer.
+    pub const LAYER_LIMIT: u32 = 14;
+
+    // A layer under a key; refusal 12 where there is no such layer.
+    pub fn new(layer: u32, key: u64) -> Keyed
+        ensures { λ r. ⌜ toldKeyed r ≡ keyed layer key ⌝ }
+    {
+        if Self::LAYER_LIMIT < layer {
+            return Keyed::Refused(12);
+        }
+        Keyed::Made(keyed_of(layer as usize, key))
+    }
+
+    // The layer at x, which counts modulo the size.
+    pub fn apply(self, x: u32) -> u32
+        ensures { λ y. ⌜ y ≡ applied self x ⌝ }
+    {
+        let h = self.half % 16;
+        let s = feistel::start_of(h, self.k0, x);
+        let a = feistel::turned(h, s.l, s.r, self.k0);
+        let b = feistel::turned(h, s.r, a, self.k1);
+        let c = feistel::turned(h, a, b, self.k2);
+        let d = feistel::turned(h, b, c, self.k3);
+        let t = feistel::rounds_of(
+            h,
+            self.more,
+            Halves {
+                l: c,
+                r: d,
+                key: self.k4,
+            },
+        );
+        feistel::over_of(h, t)
+    }
+}
+
+// A layer at x; refusal 12 where there is no such layer or x is not below its size.
+pub fn layer_apply(layer: u32, key: u64, x: u32) -> Applied
+    ensures { λ r. ⌜ told r ≡ layerApply layer key x ⌝ }
+{
+    if KeyedLayer::LAYER_LIMIT < layer {
+        return Applied::Refused(12);
+    }
+    let f = keyed_of(layer as usize, key);
+    if f.size <= x {
+        return Applied::Refused(12);
+    }
+    Applied::Output(f.apply(x))
+}

@@ -1,0 +1,4 @@
+pub mod Numbers
+pub mod Tests
+pub mod Counting
+pub mod Tables

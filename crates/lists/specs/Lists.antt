@@ -1,0 +1,48 @@
+-- Lists of numbers by a test: the words that the definitions of the crates above are written in.
+-- Assumes nothing.
+use mathlib.Core.Bool.{Bool, true, false}
+use mathlib.Core.List.{List, [], _∷_}
+use Prim.Native.Nat.{ℕ, zero, suc}
+use lib.ListN.{length}
+use lib.Dec.{ltb, eqb}
+
+-- x in front of xs, where the test passed
+abbrev pub put : Bool → ℕ → List ℕ → List ℕ
+put true x xs = x ∷ xs
+put false x xs = xs
+
+-- the entries that pass a test, in order
+abbrev pub keep : (ℕ → Bool) → List ℕ → List ℕ
+keep p [] = []
+keep p (x ∷ xs) = put (p x) x (keep p xs)
+
+-- the test: below n
+unfoldable pub below : ℕ → ℕ → Bool
+below n x = ltb x n
+
+-- how many entries are below n
+abbrev pub count : ℕ → List ℕ → ℕ
+count n xs = length (keep (below n) xs)
+
+-- the test: is v
+unfoldable pub same : ℕ → ℕ → Bool
+same v x = eqb x v
+
+-- one more, where the test passed
+abbrev pub more : Bool → ℕ → ℕ
+more true k = suc k
+more false k = k
+
+-- how often v stands in the list
+abbrev pub occ : ℕ → List ℕ → ℕ
+occ v [] = 0
+occ v (x ∷ xs) = more (same v x) (occ v xs)
+
+-- c numbers from a up
+abbrev pub from : ℕ → ℕ → List ℕ
+from a zero = []
+from a (suc c) = a ∷ from (suc a) c
+
+-- 0..n
+abbrev pub range : ℕ → List ℕ
+range n = from 0 n

@@ -1,0 +1,9 @@
+-- What a public call says. Document 01: "For an answer that is an enum, a definition gives this paper's number and
+-- values for each case." Every promise about such an answer uses this type.
+-- Assumes nothing.
+use Prim.Native.Nat.{ℕ}
+
+-- one of the numbered refusals, or the values of an answer that is none
+pub data Told (A : Type 0) : Type 0 where
+  refusal : ℕ → Told A
+  says : A → Told A

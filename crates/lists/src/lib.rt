@@ -1,0 +1,1 @@
+// Laws about lists and numbers that the kit lacks. Mathematics only: no code.
