@@ -15,10 +15,9 @@ use Rattle.lists.proofs.Counting.{Permutation, keep-same, inputs-below}
 use borrow.Author.Tests.{eq-eqb, ne-eqb}
 use Rattle.layers.specs.declared.feistel.Halves.{Halves}
 use Rattle.layers.specs.Layer.{size, roundCount, start, rounds, over, layer, topBits}
-use Rattle.layers.specs.KeyedLayers.{under}
 use Rattle.layers.specs.InnerRounds.{Within}
 use Rattle.layers.proofs.RoundLaws.{start-within, rounds-within, over-lt}
-use Rattle.layers.proofs.Inverse.{back, unlayer, lastKey, back-rounds, back-any, back-under, rounds-back, back-within}
+use Rattle.layers.proofs.Inverse.{under, back, unlayer, lastKey, back-rounds, back-any, back-under, rounds-back, back-within}
 
 -- ---- a number and its halves
 

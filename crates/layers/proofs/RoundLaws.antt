@@ -1,15 +1,15 @@
 -- Rounds one after the other, and the halves they stay within.
 -- Assumes nothing.
-use mathlib.Core.Path.{_≡_, refl, _∙_}
-use Prim.Native.Nat.{ℕ, zero, suc, _+_, _-_, _%_, _/_, _^_, _<_}
+use mathlib.Core.Path.{_≡_, refl, sym, ap, _∙_}
+use Prim.Native.Nat.{ℕ, zero, suc, _+_, _-_, _*_, _/_, _%_, _^_, _≤_, _<_}
 use native.Mathlib.Nat.{not-suc-le-zero, mod-lt}
 use native.Mathlib.Omega.{arith}
 use lib.Arith.{digits-lt}
-use lib.Pow.{pow-pos}
-use lib.Bits.{xor-lt}
+use lib.Pow.{pow-pos, mod-mod-pow}
+use lib.Bits.{bitAnd, bitXor, xor-lt, and-mask}
 use Rattle.lists.proofs.Numbers.{four-pow}
 use Rattle.layers.specs.declared.feistel.Halves.{Halves}
-use Rattle.layers.specs.Layer.{start, product, fold, round, rounds, over}
+use Rattle.layers.specs.Layer.{start, kXor, kMul, mixed, round, rounds, over}
 use Rattle.layers.specs.InnerRounds.{Within, turn}
 
 pub rounds-step : (h n : ℕ) (s : Halves) → 0 < n → rounds h n s ≡ rounds h (n - 1) (round h s)
@@ -17,11 +17,25 @@ unfolding rounds
 rounds-step h zero s p = absurd (not-suc-le-zero p)
 rounds-step h (suc n) s p = let e : suc n - 1 ≡ n = omega arith in rw e
 
+-- the low h bits of a word are those of its low 32 bits
+low-low : (s h : ℕ) → h ≤ 32 → s % 2 ^ 32 % 2 ^ h ≡ s % 2 ^ h
+low-low s h p =
+    let e : (32 - h) + h ≡ 32 = omega arith in
+    rw e at (mod-mod-pow s (32 - h) h)
+
+-- a mask is the remainder
+pub turn-mixed : (h mask l r x w : ℕ) → h ≤ 32 → mask ≡ 2 ^ h - 1 → turn mask l r x w ≡ bitXor l (mixed h r x w)
+unfolding turn mixed
+turn-mixed h mask l r x w p e = rw (e, and-mask ((bitXor r x * w % 2 ^ 32 + bitXor r x * w / 2 ^ 32) % 2 ^ 32) h, low-low (bitXor r x * w % 2 ^ 32 + bitXor r x * w / 2 ^ 32) h p)
+
 -- ---- the halves stay below 2^h
 
-pub fold-lt : (h p : ℕ) → fold h p < 2 ^ h
-unfolding fold
-fold-lt h p = mod-lt (p % 2 ^ 32 + p / 2 ^ 32) (pow-pos h)
+pub mixed-lt : (h r x w : ℕ) → mixed h r x w < 2 ^ h
+unfolding mixed
+mixed-lt h r x w = mod-lt (bitXor r x * w % 2 ^ 32 + bitXor r x * w / 2 ^ 32) (pow-pos h)
+
+pub new-lt : (h l r x w : ℕ) → l < 2 ^ h → bitXor l (mixed h r x w) < 2 ^ h
+new-lt h l r x w p = xor-lt h l (mixed h r x w) p (mixed-lt h r x w)
 
 pub start-within : (h key x : ℕ) → Within h (start h key x)
 unfolding start
@@ -29,8 +43,7 @@ start-within h key x = record { left = mod-lt (x / 2 ^ h) (pow-pos h); right = m
 
 pub round-within : (h : ℕ) (s : Halves) → Within h s → Within h (round h s)
 unfolding round
-round-within h s w =
-    record { left = w .right; right = xor-lt h (s .l) (fold h (product (s .r) (s .key))) (w .left) (fold-lt h _) }
+round-within h s w = record { left = w .right; right = new-lt h (s .l) (s .r) (kXor (s .key)) (kMul (s .key)) (w .left) }
 
 pub rounds-within : (h n : ℕ) (s : Halves) → Within h s → Within h (rounds h n s)
 unfolding rounds
@@ -42,16 +55,6 @@ pub over-lt : (h : ℕ) (s : Halves) → Within h s → over h s < 4 ^ h
 unfolding over
 over-lt h s w = rw four-pow (digits-lt (w .left) (w .right))
 
-pub turn-lt : (h l r K : ℕ) → l < 2 ^ h → turn h l r K < 2 ^ h
-unfolding turn
-turn-lt h l r K p = xor-lt h l (fold h (product r K)) p (fold-lt h _)
-
--- the halves after four rounds, each under a key of its own
-pub four-within : (h key x k1 k2 k3 k4 a b c d : ℕ) (s : Halves) → s ≡ start h key x
-    → a ≡ turn h (s .l) (s .r) key → b ≡ turn h (s .r) a k1 → c ≡ turn h a b k2 → d ≡ turn h b c k3
-    → Within h (record { l = c; r = d; key = k4 })
-four-within h key x k1 k2 k3 k4 a b c d s e p q u v =
-    let w : Within h s = rw e (start-within h key x) in
-    let wa : a < 2 ^ h = rw p (turn-lt h (s .l) (s .r) key (w .left)) in
-    let wb : b < 2 ^ h = rw q (turn-lt h (s .r) a k1 (w .right)) in
-    record { left = rw u (turn-lt h a b k2 wa); right = rw v (turn-lt h b c k3 wb) }
+-- the new right half, as the code works it out
+pub turn-lt : (h mask l r x w y : ℕ) → h ≤ 32 → mask ≡ 2 ^ h - 1 → y ≡ turn mask l r x w → l < 2 ^ h → y < 2 ^ h
+turn-lt h mask l r x w y p e q b = rw (q, turn-mixed h mask l r x w p e) (new-lt h l r x w b)

@@ -3,21 +3,35 @@
 use mathlib.Core.Bool.{cond}
 use Prim.Native.Nat.{ℕ, _+_, _-_, _%_}
 use lib.Dec.{leb}
+use lib.Bits.{bitXor}
 use Rattle.lists.specs.Told.{Told, refusal, says}
-use Rattle.layers.specs.declared.feistel.Halves.{Halves}
 use Rattle.layers.specs.declared.KeyedLayer.{KeyedLayer}
 use Rattle.layers.specs.declared.Keyed.{Keyed}
 use Rattle.layers.specs.declared.Keyed.the-variants.{Made, Refused}
-use Rattle.layers.specs.Layer.{size, roundCount, start, nextKey, round, rounds, over}
+use Rattle.layers.specs.Layer.{size, roundCount, start, kXor, kMul, mixed, nextKey, rounds, over}
 
--- Layer j: K before each of the first four rounds, K after them, and how many rounds are more than four (none has fewer).
+-- Layer j: for each of the first four rounds what its K gives, then the K after them, and how many rounds are more than
+-- four (no layer has fewer).
 abbrev pub keyedLayer : ℕ → ℕ → KeyedLayer
 keyedLayer j key =
     let h = j + 1 in
     let k1 = nextKey h key in
     let k2 = nextKey h k1 in
     let k3 = nextKey h k2 in
-    record { half = h; size = size j; more = roundCount j - 4; k0 = key; k1 = k1; k2 = k2; k3 = k3; k4 = nextKey h k3 }
+    record {
+      half = h;
+      size = size j;
+      more = roundCount j - 4;
+      xor0 = kXor key;
+      mul0 = kMul key;
+      xor1 = kXor k1;
+      mul1 = kMul k1;
+      xor2 = kXor k2;
+      mul2 = kMul k2;
+      xor3 = kXor k3;
+      mul3 = kMul k3;
+      key = nextKey h k3;
+    }
 
 -- 01's number, or the record
 abbrev pub toldKeyed : Keyed → Told KeyedLayer
@@ -28,17 +42,18 @@ toldKeyed (Refused c) = refusal c
 unfoldable pub keyed : ℕ → ℕ → Told KeyedLayer
 keyed j key = cond (leb j 14) (says (keyedLayer j key)) (refusal 12)
 
--- the halves with K set
-abbrev pub under : ℕ → Halves → Halves
-under K s = record { l = s .l; r = s .r; key = K }
+-- the new r of a round
+abbrev pub newRight : ℕ → ℕ → ℕ → ℕ → ℕ → ℕ
+newRight h l r x w = bitXor l (mixed h r x w)
 
--- What any such record gives at any x: a round under each of its four keys, then the rounds that are more. For the
+-- What any such record gives at any x: four rounds by its own numbers, then those that are more from its key. For the
 -- record of layer j that is layer j at x (proofs/KeyedLaws.antt, `keyed-layer`). The half's bits count modulo 16.
 unfoldable pub applied : KeyedLayer → ℕ → ℕ
 applied f x =
     let h = f .half % 16 in
-    let s1 = round h (start h (f .k0) x) in
-    let s2 = round h (under (f .k1) s1) in
-    let s3 = round h (under (f .k2) s2) in
-    let s4 = round h (under (f .k3) s3) in
-    over h (rounds h (f .more) (under (f .k4) s4))
+    let s = start h (f .key) x in
+    let a = newRight h (s .l) (s .r) (f .xor0) (f .mul0) in
+    let b = newRight h (s .r) a (f .xor1) (f .mul1) in
+    let c = newRight h a b (f .xor2) (f .mul2) in
+    let d = newRight h b c (f .xor3) (f .mul3) in
+    over h (rounds h (f .more) (record { l = c; r = d; key = f .key }))

@@ -23,13 +23,18 @@ roundCount (suc (suc (suc j))) = 4
 unfoldable pub start : ℕ → ℕ → ℕ → Halves
 start h key x = record { l = x / 2 ^ h % 2 ^ h; r = x % 2 ^ h; key = key }
 
--- "u = r xor the low 32 bits of K; w = (K's high 32 bits) with bit 0 set; p = u × w"
-unfoldable pub product : ℕ → ℕ → ℕ
-product r K = bitXor r (K % 2 ^ 32) * bitOr (K / 2 ^ 32) 1
+-- "u = r xor the low 32 bits of K; w = (K's high 32 bits) with bit 0 set": what r is xored with, and w
+abbrev pub kXor : ℕ → ℕ
+kXor K = K % 2 ^ 32
 
--- "f = the low h bits of (low 32 bits + high 32 bits of p)"
-unfoldable pub fold : ℕ → ℕ → ℕ
-fold h p = (p % 2 ^ 32 + p / 2 ^ 32) % 2 ^ h
+abbrev pub kMul : ℕ → ℕ
+kMul K = bitOr (K / 2 ^ 32) 1
+
+-- "p = u × w, ..; f = the low h bits of (low 32 bits + high 32 bits of p)"
+unfoldable pub mixed : ℕ → ℕ → ℕ → ℕ → ℕ
+mixed h r x w =
+    let p = bitXor r x * w in
+    (p % 2 ^ 32 + p / 2 ^ 32) % 2 ^ h
 
 -- "K becomes K rotated right by 2h, plus 0x9E3779B97F4A7C15, modulo 2^64."
 unfoldable pub nextKey : ℕ → ℕ → ℕ
@@ -37,7 +42,7 @@ nextKey h K = (rotateRight K (2 * h) + 0x9E37_79B9_7F4A_7C15) % 2 ^ 64
 
 -- "The new l is the old r, the new r is l xor f."
 unfoldable pub round : ℕ → Halves → Halves
-round h s = record { l = s .r; r = bitXor (s .l) (fold h (product (s .r) (s .key))); key = nextKey h (s .key) }
+round h s = record { l = s .r; r = bitXor (s .l) (mixed h (s .r) (kXor (s .key)) (kMul (s .key))); key = nextKey h (s .key) }
 
 -- n rounds
 unfoldable pub rounds : ℕ → ℕ → Halves → Halves

@@ -1,7 +1,8 @@
 // Feistel rounds on two halves of h bits.
 ghost use mathlib.Core.Path.{_≡_};
-ghost use Prim.Native.Nat.{_%_, _^_, _<_};
-ghost use Rattle.layers.specs.Layer.{product, fold, nextKey, round, rounds, start, over};
+ghost use Prim.Native.Nat.{_-_, _*_, _^_, _<_};
+ghost use lib.Bits.{bitXor};
+ghost use Rattle.layers.specs.Layer.{start, kXor, kMul, nextKey, round, rounds, over};
 ghost use Rattle.layers.specs.InnerRounds.{Within, turn};
 
 // The two halves, l and r, and the key K of the next round.
@@ -11,12 +12,12 @@ pub struct Halves {
     pub key: u64,
 }
 
-// The low h bits of x.
-fn low_bits(x: u64, h: u32) -> u32
+// The low h bits set.
+pub(crate) fn mask_of(h: u32) -> u32
     requires { ⌜ h < 32 ⌝ }
-    ensures { λ y. ⌜ y ≡ x % 2 ^ h ⌝ }
+    ensures { λ m. ⌜ m ≡ 2 ^ h - 1 ⌝ }
 {
-    (x & ((1u64 << h) - 1)) as u32
+    (1u32 << h) - 1
 }
 
 // The halves of the input x.
@@ -24,27 +25,39 @@ pub(crate) fn start_of(h: u32, key: u64, x: u32) -> Halves
     requires { ⌜ h < 32 ⌝ }
     ensures { λ s. ⌜ s ≡ start h key x ⌝ }
 {
-    let l = low_bits((x >> h) as u64, h);
-    let r = low_bits(x as u64, h);
+    let mask = mask_of(h);
+    let l = (x >> h) & mask;
+    let r = x & mask;
     Halves { l, r, key }
 }
 
-// u × w: u is r xor the low half of the key, w the high half with bit 0 set.
-fn product_of(r: u32, key: u64) -> u64
-    ensures { λ p. ⌜ p ≡ product r key ⌝ }
+// What r is xored with in a round.
+pub(crate) fn k_xor(key: u64) -> u32
+    ensures { λ x. ⌜ x ≡ kXor key ⌝ }
 {
-    let u = (r as u64) ^ (key % 0x1_0000_0000);
-    let w = (key / 0x1_0000_0000) | 1;
-    u * w
+    (key % 0x1_0000_0000) as u32
 }
 
-// The new right half of a round.
-pub(crate) fn turned(h: u32, l: u32, r: u32, key: u64) -> u32
-    requires { ⌜ h < 32 ⌝ }
-    ensures { λ y. ⌜ y ≡ turn h l r key ⌝ }
+// What that is multiplied by.
+pub(crate) fn k_mul(key: u64) -> u32
+    ensures { λ w. ⌜ w ≡ kMul key ⌝ }
 {
-    let p = product_of(r, key);
-    l ^ low_bits(p % 0x1_0000_0000 + p / 0x1_0000_0000, h)
+    ((key / 0x1_0000_0000) as u32) | 1
+}
+
+fn product(r: u32, x: u32, w: u32) -> u64
+    ensures { λ p. ⌜ p ≡ bitXor r x * w ⌝ }
+{
+    ((r as u64) ^ (x as u64)) * (w as u64)
+}
+
+// The new right half of a round. The mask, and not h, so that a loop works it out once.
+pub(crate) fn turned(mask: u32, l: u32, r: u32, x: u32, w: u32) -> u32
+    ensures { λ y. ⌜ y ≡ turn mask l r x w ⌝ }
+{
+    let p = product(r, x, w);
+    let sum = (p % 0x1_0000_0000 + p / 0x1_0000_0000) % 0x1_0000_0000;
+    l ^ ((sum as u32) & mask)
 }
 
 // The key of the next round.
@@ -56,11 +69,11 @@ pub(crate) fn next_key(h: u32, key: u64) -> u64
 }
 
 // One round.
-fn round_of(h: u32, s: Halves) -> Halves
-    requires { ⌜ h < 32 ⌝ }
+fn round_of(h: u32, mask: u32, s: Halves) -> Halves
+    requires { ⌜ (h < 32) × (mask ≡ 2 ^ h - 1) ⌝ }
     ensures { λ t. ⌜ t ≡ round h s ⌝ }
 {
-    let r = turned(h, s.l, s.r, s.key);
+    let r = turned(mask, s.l, s.r, k_xor(s.key), k_mul(s.key));
     let key = next_key(h, s.key);
     Halves { l: s.r, r, key }
 }
@@ -70,10 +83,11 @@ pub(crate) fn rounds_of(h: u32, n: u32, s: Halves) -> Halves
     requires { ⌜ h < 32 ⌝ }
     ensures { λ t. ⌜ t ≡ rounds h n s ⌝ }
 {
+    let mask = mask_of(h);
     let mut t = s;
     let mut left = n;
     while 0 < left {
-        t = round_of(h, t);
+        t = round_of(h, mask, t);
         left -= 1;
     }
     t
@@ -85,4 +99,14 @@ pub(crate) fn over_of(h: u32, s: Halves) -> u32
     ensures { λ y. ⌜ y ≡ over h s ⌝ }
 {
     (s.l << h) | s.r
+}
+
+// A number through n rounds.
+pub(crate) fn network(h: u32, n: u32, key: u64, x: u32) -> u32
+    requires { ⌜ h < 16 ⌝ }
+    ensures { λ y. ⌜ y ≡ over h (rounds h n (start h key x)) ⌝ }
+{
+    let s = start_of(h, key, x);
+    let t = rounds_of(h, n, s);
+    over_of(h, t)
 }

@@ -15,16 +15,20 @@ pub enum Applied {
 }
 
 // A layer under a key, made once and applied many times: the bits of a half, the size, how many rounds are more than
-// four, the keys of the first four rounds and the key after them.
+// four, what each of the first four rounds takes of its key, and the key after them.
 pub struct KeyedLayer {
     pub half: u32,
     pub size: u32,
     pub more: u32,
-    pub k0: u64,
-    pub k1: u64,
-    pub k2: u64,
-    pub k3: u64,
-    pub k4: u64,
+    pub xor0: u32,
+    pub mul0: u32,
+    pub xor1: u32,
+    pub mul1: u32,
+    pub xor2: u32,
+    pub mul2: u32,
+    pub xor3: u32,
+    pub mul3: u32,
+    pub key: u64,
 }
 
 // A keyed layer, or a refusal with its number.
@@ -48,11 +52,15 @@ fn keyed_of(layer: usize, key: u64) -> KeyedLayer
         half: h,
         size: row.size,
         more: row.rounds - 4,
-        k0: key,
-        k1,
-        k2,
-        k3,
-        k4,
+        xor0: feistel::k_xor(key),
+        mul0: feistel::k_mul(key),
+        xor1: feistel::k_xor(k1),
+        mul1: feistel::k_mul(k1),
+        xor2: feistel::k_xor(k2),
+        mul2: feistel::k_mul(k2),
+        xor3: feistel::k_xor(k3),
+        mul3: feistel::k_mul(k3),
+        key: k4,
     }
 }
 
@@ -75,20 +83,14 @@ impl KeyedLayer {
         ensures { λ y. ⌜ y ≡ applied self x ⌝ }
     {
         let h = self.half % 16;
-        let s = feistel::start_of(h, self.k0, x);
-        let a = feistel::turned(h, s.l, s.r, self.k0);
-        let b = feistel::turned(h, s.r, a, self.k1);
-        let c = feistel::turned(h, a, b, self.k2);
-        let d = feistel::turned(h, b, c, self.k3);
-        let t = feistel::rounds_of(
-            h,
-            self.more,
-            Halves {
-                l: c,
-                r: d,
-                key: self.k4,
-            },
-        );
+        let key = self.key;
+        let mask = feistel::mask_of(h);
+        let s = feistel::start_of(h, key, x);
+        let a = feistel::turned(mask, s.l, s.r, self.xor0, self.mul0);
+        let b = feistel::turned(mask, s.r, a, self.xor1, self.mul1);
+        let c = feistel::turned(mask, a, b, self.xor2, self.mul2);
+        let d = feistel::turned(mask, b, c, self.xor3, self.mul3);
+        let t = feistel::rounds_of(h, self.more, Halves { l: c, r: d, key });
         feistel::over_of(h, t)
     }
 }
@@ -100,9 +102,9 @@ pub fn layer_apply(layer: u32, key: u64, x: u32) -> Applied
     if KeyedLayer::LAYER_LIMIT < layer {
         return Applied::Refused(12);
     }
-    let f = keyed_of(layer as usize, key);
-    if f.size <= x {
+    let row = rows::row_of(layer as usize);
+    if row.size <= x {
         return Applied::Refused(12);
     }
-    Applied::Output(f.apply(x))
+    Applied::Output(feistel::network(row.bits / 2, row.rounds, key, x))
 }

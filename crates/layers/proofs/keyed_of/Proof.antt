@@ -32,19 +32,51 @@ sub-t9 c =
     let read = c .before .before .before .before .before .before in
     omega (arith, rounds-of-row _ _ (read .row-of .ensures), four-rounds (read .before .args .layer))
 
+k-xor-requires : tie.Need-k-xor-requires
+k-xor-requires c κs = search needs
+
+k-mul-requires : tie.Need-k-mul-requires
+k-mul-requires c κs = search needs
+
+k-xor-requires-2 : tie.Need-k-xor-requires-2
+k-xor-requires-2 c κs = search needs
+
+k-mul-requires-2 : tie.Need-k-mul-requires-2
+k-mul-requires-2 c κs = search needs
+
+k-xor-requires-3 : tie.Need-k-xor-requires-3
+k-xor-requires-3 c κs = search needs
+
+k-mul-requires-3 : tie.Need-k-mul-requires-3
+k-mul-requires-3 c κs = search needs
+
+k-xor-requires-4 : tie.Need-k-xor-requires-4
+k-xor-requires-4 c κs = search needs
+
+k-mul-requires-4 : tie.Need-k-mul-requires-4
+k-mul-requires-4 c κs = search needs
+
 returns : tie.Need-returns
 unfolding rowOf
 returns c =
-    let fourth = c .before in
-    let third = fourth .before in
-    let second = third .before in
-    let first = second .before in
-    let read = first .before .before in
+    let third = c .before .before in
+    let second = third .before .before in
+    let first = second .before .before in
+    let keys = first .before .before .before in
+    let read = keys .before .before .before .before .before in
     rw (
-      fourth .next-key4 .ensures,
-      third .next-key3 .ensures,
-      second .next-key2 .ensures,
-      first .next-key .ensures,
+      c .k-mul4 .ensures,
+      c .before .k-xor4 .ensures,
+      third .k-mul3 .ensures,
+      third .before .k-xor3 .ensures,
+      second .k-mul2 .ensures,
+      second .before .k-xor2 .ensures,
+      first .k-mul .ensures,
+      first .before .k-xor .ensures,
+      keys .next-key4 .ensures,
+      keys .before .next-key3 .ensures,
+      keys .before .before .next-key2 .ensures,
+      keys .before .before .before .next-key .ensures,
       halved read,
       read .row-of .ensures,
     )
@@ -59,4 +91,12 @@ keyed-of-spec =
     next-key-requires-3
     next-key-requires-4
     sub-t9
+    k-xor-requires
+    k-mul-requires
+    k-xor-requires-2
+    k-mul-requires-2
+    k-xor-requires-3
+    k-mul-requires-3
+    k-xor-requires-4
+    k-mul-requires-4
     returns)

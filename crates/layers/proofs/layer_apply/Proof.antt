@@ -7,10 +7,8 @@ use borrow.Author.Tests.{lt-leb, le-leb, lt-ltb, le-ltb}
 use borrow.Author.Needs.{needs}
 use Rattle.lists.specs.Told.{says}
 use Rattle.layers.specs.Layer.{size}
-use Rattle.layers.specs.declared.KeyedLayer.{KeyedLayer}
-use Rattle.layers.specs.KeyedLayers.{applied}
 use Rattle.layers.specs.Calls.{layerApply}
-use Rattle.layers.proofs.KeyedLaws.{keyed-layer}
+use Rattle.layers.proofs.RowLaws.{half, size-of-row, row-layer}
 use Rattle.layers.proofs.layer_apply.Statement.{statement}
 use Rattle.layers.proofs.layer_apply.Tie as tie
 
@@ -18,30 +16,29 @@ returns : tie.Need-returns
 unfolding layerApply
 returns c = simp (lt-leb (c .before .args .layer) 14 (omega arith))
 
-keyed-of-requires : tie.Need-keyed-of-requires
-keyed-of-requires c κs = search needs
+row-of-requires : tie.Need-row-of-requires
+row-of-requires c κs = search needs
 
 returns-2 : tie.Need-returns-2
 unfolding layerApply
 returns-2 c =
-    let made = c .before .before in
-    let a = made .before .before .args in
-    let q : size (a .layer) ≤ a .x = omega (arith, ap (λ (f : KeyedLayer). f .size) (made .keyed-of .ensures)) in
+    let read = c .before .before in
+    let a = read .before .before .args in
+    let q : size (a .layer) ≤ a .x = omega (arith, size-of-row _ _ (read .row-of .ensures)) in
     simp (le-leb (a .layer) 14 (omega arith), le-ltb _ _ q)
 
-apply-requires : tie.Need-apply-requires
-apply-requires c κs = search needs
+network-requires : tie.Need-network-requires
+network-requires c κs = omega (arith, half _ _ (c .before .before .before .row-of .ensures))
 
 returns-3 : tie.Need-returns-3
 unfolding layerApply
 returns-3 c =
-    let made = c .before .before .before in
-    let a = made .before .before .args in
-    let e = made .keyed-of .ensures in
-    let q : a .x < size (a .layer) = omega (arith, ap (λ (f : KeyedLayer). f .size) e) in
-    let y = ap (λ (f : KeyedLayer). applied f (a .x)) e ∙ keyed-layer (a .layer) (a .key) (a .x) (omega arith) in
-    simp (le-leb (a .layer) 14 (omega arith), lt-ltb _ _ q) (ap says (c .apply .ensures ∙ y))
+    let read = c .before .before .before .before in
+    let a = read .before .before .args in
+    let e = read .row-of .ensures in
+    let q : a .x < size (a .layer) = omega (arith, size-of-row _ _ e) in
+    simp (le-leb (a .layer) 14 (omega arith), lt-ltb _ _ q) (ap says (c .network .ensures ∙ row-layer (a .layer) (a .key) (a .x) _ e))
 
 pub layer-apply-spec : {M : Type 1} → statement M
 layer-apply-spec =
-    tie.close (tie.spec returns keyed-of-requires returns-2 apply-requires returns-3)
+    tie.close (tie.spec returns row-of-requires returns-2 network-requires returns-3)

@@ -1,15 +1,19 @@
 -- `layers::KeyedLayer::apply` meets its contract.
 -- Assumes nothing.
 use mathlib.Core.Path.{_≡_}
-use Prim.Native.Nat.{_%_}
+use Prim.Native.Nat.{ℕ, _%_, _≤_}
 use native.Mathlib.Omega.{arith}
+use lib.Bits.{bitXor}
 use borrow.Author.Needs.{needs}
-use Rattle.layers.specs.Layer.{start, round}
+use Rattle.layers.specs.Layer.{mixed}
 use Rattle.layers.specs.KeyedLayers.{applied}
 use Rattle.layers.specs.InnerRounds.{Within, turn}
-use Rattle.layers.proofs.RoundLaws.{four-within, rounds-within}
+use Rattle.layers.proofs.RoundLaws.{turn-mixed, turn-lt, start-within, rounds-within}
 use Rattle.layers.proofs.KeyedLayer.apply.Statement.{statement}
 use Rattle.layers.proofs.KeyedLayer.apply.Tie as tie
+
+mask-of-requires : tie.Need-mask-of-requires
+mask-of-requires c κs = search needs
 
 start-of-requires : tie.Need-start-of-requires
 start-of-requires c κs = search needs
@@ -35,36 +39,45 @@ over-of-requires c κs =
     let third = fourth .before in
     let second = third .before in
     let first = second .before in
-    let four =
-    four-within _ _ _ _ _ _ _ _ _ _ _ _
-    (first .before .start-of .ensures)
-    (first .turned .ensures)
-    (second .turned2 .ensures)
-    (third .turned3 .ensures)
-    (fourth .turned4 .ensures) in
-    (omega arith, rw (c .rounds-of .ensures) (rounds-within _ _ _ four))
+    let halved = first .before in
+    let h = halved .before .before .before .args .self .half % 16 in
+    let p : h ≤ 32 = omega arith in
+    let m = halved .before .mask-of .ensures in
+    let s : Within h (halved .start-of .result) = rw (halved .start-of .ensures) (start-within h _ _) in
+    let a = turn-lt h _ _ _ _ _ _ p m (first .turned .ensures) (s .left) in
+    let b = turn-lt h _ _ _ _ _ _ p m (second .turned2 .ensures) (s .right) in
+    let left = turn-lt h _ _ _ _ _ _ p m (third .turned3 .ensures) a in
+    let right = turn-lt h _ _ _ _ _ _ p m (fourth .turned4 .ensures) b in
+    (omega arith, rw (c .rounds-of .ensures) (rounds-within h _ _ (record { left = left; right = right })))
 
 returns : tie.Need-returns
-unfolding applied round turn start
+unfolding applied
 returns c =
     let fourth = c .before .before in
     let third = fourth .before in
     let second = third .before in
     let first = second .before in
-    rw (
+    let halved = first .before in
+    let h = halved .before .before .before .args .self .half % 16 in
+    let p : h ≤ 32 = omega arith in
+    let mask = halved .before .mask-of in
+    let mixes : (l r x w : ℕ) → turn (mask .result) l r x w ≡ bitXor l (mixed h r x w) = λ l r x w. turn-mixed h _ l r x w p (mask .ensures) in
+    simp (
       c .over-of .ensures,
       c .before .rounds-of .ensures,
       fourth .turned4 .ensures,
       third .turned3 .ensures,
       second .turned2 .ensures,
       first .turned .ensures,
-      first .before .start-of .ensures,
+      halved .start-of .ensures,
+      mixes,
     )
 
 pub apply-spec : {M : Type 1} → statement M
 apply-spec =
     tie.close
     (tie.spec
+    mask-of-requires
     start-of-requires
     turned-requires
     turned-requires-2

@@ -10,10 +10,13 @@ use Rattle.layers.proofs.feistel.rounds_of.Statement.{statement}
 use Rattle.layers.proofs.feistel.rounds_of.Tie as tie
 
 abbrev Inv-loop : tie.InvT-loop
-Inv-loop h n t₀ left₀ t left = rounds h left t ≡ rounds h left₀ t₀
+Inv-loop h n mask t₀ left₀ t left = rounds h left t ≡ rounds h left₀ t₀
 
 abbrev μ-loop : tie.MeasureT-loop
-μ-loop h n t₀ left₀ t left = left
+μ-loop h n mask t₀ left₀ t left = left
+
+mask-of-requires : tie.Need-mask-of-requires Inv-loop μ-loop
+mask-of-requires c κs = search needs
 
 loop-holds : tie.Need-loop-holds Inv-loop μ-loop
 loop-holds c = refl
@@ -30,7 +33,7 @@ loop-less c = omega arith
 loop-again : tie.Need-loop-again Inv-loop μ-loop
 loop-again c =
     let l = c .before .before .loop in
-    let h = c .before .before .before .args .h in
+    let h = c .before .before .before .before .args .h in
     ap (rounds h (l .left - 1)) (c .round-of .ensures) ∙ sym (rounds-step h (l .left) (l .t) (omega arith)) ∙ l .inv
 
 returns : tie.Need-returns Inv-loop μ-loop
@@ -42,4 +45,13 @@ returns c =
 pub rounds-of-spec : {M : Type 1} → statement M
 rounds-of-spec =
     tie.close
-    (tie.spec Inv-loop μ-loop loop-holds round-of-requires sub-left loop-less loop-again returns)
+    (tie.spec
+    Inv-loop
+    μ-loop
+    mask-of-requires
+    loop-holds
+    round-of-requires
+    sub-left
+    loop-less
+    loop-again
+    returns)

@@ -1,0 +1,18 @@
+//! The original, built from its own five files, with document 01's stand-in for the standard hashers.
+
+#![allow(dead_code)]
+
+include!(concat!(env!("OUT_DIR"), "/original.rs"));
+
+mod stand_in;
+
+pub use choose_k::ConsistentChooseKHasher;
+pub use consistent_hash::{ConsistentHasher, HashSeqBuilder, HashSequence, ManySeqBuilder};
+pub use consistent_permutation::splitmix64;
+pub use stand_in::{Draws, StandIn};
+
+/// The original's `layer_apply`, which is not public there, by layer instead of bits.
+#[inline]
+pub fn layer_apply(layer: u32, key: u64, x: u32) -> u32 {
+    consistent_permutation::layer_apply(2 * layer + 2, key, x)
+}

@@ -1,0 +1,92 @@
+//! Prints answers of the original for stated inputs, a line each: a letter, then numbers in hexadecimal.
+//!
+//! oracle mix | layers | refusals: the answers. oracle expected: what the replay of all of them prints.
+
+use oracle::{layer_apply, splitmix64, Draws};
+
+/// Keys that show a slip in the key schedule: nothing set, the lowest bit, the lowest bit of the high half, all.
+const KEYS: [u64; 4] = [0, 1, 1 << 32, u64::MAX];
+
+/// `m v mix(v)`.
+fn mix() -> Vec<String> {
+    let mut inputs = vec![0, u64::MAX, 54387634019, 0x9E37_79B9_7F4A_7C15];
+    inputs.extend((0..64).map(|bit| 1u64 << bit));
+    inputs.extend((0..64).map(|bit| u64::MAX << bit));
+    let mut draws = Draws(1);
+    inputs.extend((0..368).map(|_| draws.next()));
+    inputs.iter().map(|&v| format!("m {v:x} {:x}", splitmix64(v))).collect()
+}
+
+/// The inputs of a layer to try: all where there are few, else the first, the last and others.
+fn inputs(size: u64, draws: &mut Draws) -> Vec<u64> {
+    if size <= 16 {
+        return (0..size).collect();
+    }
+    let mut chosen = vec![0, 1, size / 4 - 1, size / 4, size - 2, size - 1];
+    chosen.extend((0..6).map(|_| draws.below(size)));
+    chosen
+}
+
+/// `l layer key x output`.
+fn layers() -> Vec<String> {
+    let mut draws = Draws(2);
+    let mut lines = Vec::new();
+    for layer in 0..15u32 {
+        let mut keys = KEYS.to_vec();
+        keys.extend((0..4).map(|_| draws.next()));
+        for key in keys {
+            for x in inputs(1 << (2 * layer + 2), &mut draws) {
+                let y = layer_apply(layer, key, x as u32);
+                lines.push(format!("l {layer:x} {key:x} {x:x} {y:x}"));
+            }
+        }
+    }
+    lines
+}
+
+/// `l layer key x 2^32 + 12`: by document 01, since the original tests neither the layer nor the input.
+fn refusals() -> Vec<String> {
+    let refused = (1u64 << 32) + 12;
+    let mut lines = Vec::new();
+    for key in KEYS {
+        for layer in [15, 16, 31, 1 << 31, u32::MAX] {
+            for x in [0, 1, u32::MAX] {
+                lines.push(format!("l {layer:x} {key:x} {x:x} {refused:x}"));
+            }
+        }
+        for layer in 0..15u32 {
+            let size = 1u32 << (2 * layer + 2);
+            for x in [size, size + 1, u32::MAX] {
+                lines.push(format!("l {layer:x} {key:x} {x:x} {refused:x}"));
+            }
+        }
+    }
+    lines
+}
+
+/// A set's name, where its answers are from, and its lines.
+type Set = (&'static str, &'static str, fn() -> Vec<String>);
+
+const ORIGINAL: &str = "consistent-choose-k of github/rust-gems 9804c5bc17, built in release";
+
+const SETS: [Set; 3] = [
+    ("mix", ORIGINAL, mix),
+    ("layers", ORIGINAL, layers),
+    ("refusals", "document 01, since the original does not refuse", refusals),
+];
+
+fn main() {
+    let wanted = std::env::args().nth(1).unwrap_or_default();
+    if wanted == "expected" {
+        for (name, _, lines) in SETS {
+            println!("{name}: {} answers compared, all agree", lines().len());
+        }
+        return;
+    }
+    let Some((name, from, lines)) = SETS.iter().find(|(name, _, _)| *name == wanted) else {
+        eprintln!("usage: oracle mix | layers | refusals | expected");
+        std::process::exit(2);
+    };
+    println!("# {name}: made by oracle/make. Answers of {from}.");
+    lines().iter().for_each(|line| println!("{line}"));
+}
