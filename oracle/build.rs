@@ -39,10 +39,18 @@ fn main() {
 
 /// Copies one file, and answers the line that declares it.
 fn module(from: &Path, to: &Path, name: &str) -> String {
-    let mut text = fs::read_to_string(from)
-        .unwrap_or_else(|e| panic!("{}: {e}; CHOOSE_K_SRC names the folder of the original", from.display()));
+    let mut text = fs::read_to_string(from).unwrap_or_else(|e| {
+        panic!(
+            "{}: {e}; CHOOSE_K_SRC names the folder of the original",
+            from.display()
+        )
+    });
     for (_, hidden, open) in OPENED.iter().filter(|(file, _, _)| *file == name) {
-        assert!(text.contains(hidden), "{}: no text {hidden:?}", from.display());
+        assert!(
+            text.contains(hidden),
+            "{}: no text {hidden:?}",
+            from.display()
+        );
         text = text.replace(hidden, open);
     }
     fs::write(to, text).unwrap();

@@ -10,7 +10,10 @@ fn measure(count: u64, ours: impl Fn() -> u64, theirs: impl Fn() -> u64) -> (f64
     assert_eq!(ours(), theirs(), "the two sides work out different things");
     let mut best = [f64::MAX; 2];
     for _ in 0..REPEATS {
-        for (side, time) in [&ours as &dyn Fn() -> u64, &theirs].into_iter().zip(&mut best) {
+        for (side, time) in [&ours as &dyn Fn() -> u64, &theirs]
+            .into_iter()
+            .zip(&mut best)
+        {
             let start = Instant::now();
             black_box(side());
             *time = time.min(start.elapsed().as_nanos() as f64 / count as f64);
@@ -20,12 +23,17 @@ fn measure(count: u64, ours: impl Fn() -> u64, theirs: impl Fn() -> u64) -> (f64
 }
 
 fn report(what: &str, (ours, theirs): (f64, f64)) {
-    println!("{what:<44} {ours:>8.2} {theirs:>8.2} {:>7.2}", ours / theirs);
+    println!(
+        "{what:<44} {ours:>8.2} {theirs:>8.2} {:>7.2}",
+        ours / theirs
+    );
 }
 
 #[inline(never)]
 fn layer_xors(layer: u32, key: u64, n: u32) -> u64 {
-    (0..n).fold(0, |sum, x| sum ^ u64::from(oracle::layer_apply(layer, key, x)))
+    (0..n).fold(0, |sum, x| {
+        sum ^ u64::from(oracle::layer_apply(layer, key, x))
+    })
 }
 
 /// A call of its own, as the proved one is.
@@ -41,23 +49,41 @@ fn splitmix64(v: u64) -> u64 {
 
 fn main() {
     let key = 0xDEAD_BEEF_CAFE_F00D;
-    println!("{:<44} {:>8} {:>8} {:>7}", "nanoseconds each", "proved", "Rust", "ratio");
+    println!(
+        "{:<44} {:>8} {:>8} {:>7}",
+        "nanoseconds each", "proved", "Rust", "ratio"
+    );
     for layer in [0, 1, 2, 3, 5, 8, 11] {
         let n = 1u32 << (2 * layer + 2);
         let turns = ((1u64 << 22) / u64::from(n)).max(1);
-        let ours = || (0..turns).fold(0, |s, t| s ^ u64::from(proved::layer_xors(layer, key ^ t, n).unwrap()) << (t % 8));
+        let ours = || {
+            (0..turns).fold(0, |s, t| {
+                s ^ u64::from(proved::layer_xors(layer, key ^ t, n).unwrap()) << (t % 8)
+            })
+        };
         let theirs = || (0..turns).fold(0, |s, t| s ^ layer_xors(layer, key ^ t, n) << (t % 8));
-        report(&format!("layer {layer} over its {n} inputs"), measure(turns * u64::from(n), ours, theirs));
+        report(
+            &format!("layer {layer} over its {n} inputs"),
+            measure(turns * u64::from(n), ours, theirs),
+        );
     }
     for layer in [0, 3, 14] {
         let n = 1u32 << (2 * layer + 2).min(20);
         let turns = (1u64 << 20) / u64::from(n);
-        let runs = |f: &dyn Fn(u32) -> u32| (0..turns).fold(0, |s, _| s + (0..n).fold(0, |s, x| s ^ u64::from(f(x))));
+        let runs = |f: &dyn Fn(u32) -> u32| {
+            (0..turns).fold(0, |s, _| s + (0..n).fold(0, |s, x| s ^ u64::from(f(x))))
+        };
         let ours = || runs(&|x| proved::layer_apply(layer, key, x).unwrap());
         let theirs = || runs(&|x| layer_apply(layer, key, x));
-        report(&format!("layer_apply of layer {layer}, one call each"), measure(turns * u64::from(n), ours, theirs));
+        report(
+            &format!("layer_apply of layer {layer}, one call each"),
+            measure(turns * u64::from(n), ours, theirs),
+        );
     }
     let calls = 1u64 << 22;
     let chain = |f: &dyn Fn(u64) -> u64| (0..calls).fold(0, |s, _| f(s));
-    report("splitmix64, each of the one before", measure(calls, || chain(&proved::splitmix64), || chain(&splitmix64)));
+    report(
+        "splitmix64, each of the one before",
+        measure(calls, || chain(&proved::splitmix64), || chain(&splitmix64)),
+    );
 }

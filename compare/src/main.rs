@@ -65,17 +65,29 @@ fn differ<T: PartialEq + std::fmt::Debug>(input: String, ours: T, theirs: T) -> 
 
 fn wrapping_mul(draws: &mut Draws) -> Option<String> {
     let (a, b) = (word(draws), word(draws));
-    differ(format!("{a:#x} * {b:#x}"), proved::wrapping_mul(a, b), a.wrapping_mul(b))
+    differ(
+        format!("{a:#x} * {b:#x}"),
+        proved::wrapping_mul(a, b),
+        a.wrapping_mul(b),
+    )
 }
 
 fn rotate_right(draws: &mut Draws) -> Option<String> {
     let (x, places) = (word(draws), word(draws) as u32);
-    differ(format!("{x:#x} by {places}"), proved::rotate_right(x, places), x.rotate_right(places))
+    differ(
+        format!("{x:#x} by {places}"),
+        proved::rotate_right(x, places),
+        x.rotate_right(places),
+    )
 }
 
 fn splitmix64(draws: &mut Draws) -> Option<String> {
     let v = word(draws);
-    differ(format!("{v:#x}"), proved::splitmix64(v), oracle::splitmix64(v))
+    differ(
+        format!("{v:#x}"),
+        proved::splitmix64(v),
+        oracle::splitmix64(v),
+    )
 }
 
 fn layer_apply(draws: &mut Draws) -> Option<String> {
@@ -83,7 +95,11 @@ fn layer_apply(draws: &mut Draws) -> Option<String> {
     let key = word(draws);
     let x = below(draws, 1 << (2 * layer + 2));
     let theirs = oracle::layer_apply(layer, key, x);
-    differ(format!("layer {layer} key {key:#x} x {x}"), proved::layer_apply(layer, key, x), Ok(theirs))
+    differ(
+        format!("layer {layer} key {key:#x} x {x}"),
+        proved::layer_apply(layer, key, x),
+        Ok(theirs),
+    )
 }
 
 /// By document 01, since the original tests neither the layer nor the input.
@@ -95,5 +111,9 @@ fn layer_refusals(draws: &mut Draws) -> Option<String> {
         let layer = draws.below(15) as u32;
         (layer, (word(draws) as u32).max(1 << (2 * layer + 2)))
     };
-    differ(format!("layer {layer} key {key:#x} x {x}"), proved::layer_apply(layer, key, x), Err(Refused(12)))
+    differ(
+        format!("layer {layer} key {key:#x} x {x}"),
+        proved::layer_apply(layer, key, x),
+        Err(Refused(12)),
+    )
 }

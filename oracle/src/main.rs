@@ -14,7 +14,10 @@ fn mix() -> Vec<String> {
     inputs.extend((0..64).map(|bit| u64::MAX << bit));
     let mut draws = Draws(1);
     inputs.extend((0..368).map(|_| draws.next()));
-    inputs.iter().map(|&v| format!("m {v:x} {:x}", splitmix64(v))).collect()
+    inputs
+        .iter()
+        .map(|&v| format!("m {v:x} {:x}", splitmix64(v)))
+        .collect()
 }
 
 /// The inputs of a layer to try: all where there are few, else the first, the last and others.
@@ -72,7 +75,11 @@ const ORIGINAL: &str = "consistent-choose-k of github/rust-gems 9804c5bc17, buil
 const SETS: [Set; 3] = [
     ("mix", ORIGINAL, mix),
     ("layers", ORIGINAL, layers),
-    ("refusals", "document 01, since the original does not refuse", refusals),
+    (
+        "refusals",
+        "document 01, since the original does not refuse",
+        refusals,
+    ),
 ];
 
 fn main() {

@@ -1,0 +1,69 @@
+// A line of a file of answers: a letter, then numbers in hexadecimal, parted by single spaces; the last is the answer.
+ghost use Prim.Native.Nat.{_<_};
+
+// The line as far as it was read: its letter (0 before it came), the place of the number that is being read, the numbers.
+// Place 0 is the letter's own.
+pub struct Fields {
+    pub letter: u8,
+    pub at: usize,
+    pub values: [u64; 8],
+}
+
+// The worth of a hexadecimal digit in lower case.
+fn digit(b: u8) -> u64
+    ensures { λ r. ⌜ r < 16 ⌝ }
+{
+    let low = (b % 16) as u64;
+    if b < b'a' {
+        return low;
+    }
+    (low + 9) % 16
+}
+
+fn word(v: u64) -> u32 {
+    (v % 0x1_0000_0000) as u32
+}
+
+impl Fields {
+    pub(crate) fn new() -> Fields {
+        Fields {
+            letter: 0,
+            at: 0,
+            values: [0; 8],
+        }
+    }
+
+    // The line with a byte more.
+    pub(crate) fn with(self, b: u8) -> Fields {
+        let letter = self.letter;
+        let at = self.at % 8;
+        let mut values = self.values;
+        if letter == 0 {
+            return Fields {
+                letter: b,
+                at: 0,
+                values,
+            };
+        }
+        if b == b' ' {
+            return Fields {
+                letter,
+                at: at + 1,
+                values,
+            };
+        }
+        values[at] = values[at] % 0x1000_0000_0000_0000 * 16 + digit(b);
+        Fields { letter, at, values }
+    }
+
+    // Whether the library answers as the line says. A letter that none of the calls has never agrees.
+    pub(crate) fn agrees(self) -> bool {
+        let v = self.values;
+        let letter = self.letter;
+        match letter {
+            b'm' => words::splitmix64(v[1]) == v[2],
+            b'l' => exports::perillajamb_layer_apply(word(v[1]), v[2], word(v[3])) == v[4],
+            _ => false,
+        }
+    }
+}
