@@ -6,9 +6,9 @@ use Prim.Native.Nat.{ℕ, zero, suc, _+_, _^_, _<_}
 use lib.Bits.{bitXor}
 use Rattle.lists.proofs.Numbers.{xor-cancel}
 use Rattle.layers.specs.declared.feistel.Halves.{Halves}
-use Rattle.layers.specs.Layer.{roundCount, start, kXor, kMul, mixed, nextKey, round, rounds, over}
+use Rattle.layers.specs.Layer.{roundCount, start, roundFunction, nextKey, round, rounds, over}
 use Rattle.layers.specs.InnerRounds.{Within}
-use Rattle.layers.proofs.RoundLaws.{new-lt}
+use Rattle.layers.proofs.RoundLaws.{function-lt}
 
 -- the halves with K set
 abbrev pub under : ℕ → Halves → Halves
@@ -16,7 +16,7 @@ under K s = record { l = s .l; r = s .r; key = K }
 
 -- one round undone: K is the key that the round had
 unfoldable pub undo : ℕ → ℕ → Halves → Halves
-undo h K s = record { l = bitXor (s .r) (mixed h (s .l) (kXor K) (kMul K)); r = s .l; key = K }
+undo h K s = record { l = bitXor (s .r) (roundFunction h (s .l) K); r = s .l; key = K }
 
 -- n rounds undone: K is the key that the first of them had, and the halves' own key is not read
 unfoldable pub back : ℕ → ℕ → ℕ → Halves → Halves
@@ -36,11 +36,11 @@ lastKey h (suc n) K = lastKey h n (nextKey h K)
 
 undo-round : (h : ℕ) (s : Halves) → undo h (s .key) (round h s) ≡ s
 unfolding undo round
-undo-round h s = λ i. record { l = xor-cancel (s .l) (mixed h (s .r) (kXor (s .key)) (kMul (s .key))) i; r = s .r; key = s .key }
+undo-round h s = λ i. record { l = xor-cancel (s .l) (roundFunction h (s .r) (s .key)) i; r = s .r; key = s .key }
 
 round-undo : (h K : ℕ) (t : Halves) → t .key ≡ nextKey h K → round h (undo h K t) ≡ t
 unfolding undo round
-round-undo h K t e = λ i. record { l = t .l; r = xor-cancel (t .r) (mixed h (t .l) (kXor K) (kMul K)) i; key = sym e i }
+round-undo h K t e = λ i. record { l = t .l; r = xor-cancel (t .r) (roundFunction h (t .l) K) i; key = sym e i }
 
 pub back-rounds : (h n : ℕ) (s : Halves) → back h n (s .key) (rounds h n s) ≡ s
 unfolding back rounds round
@@ -71,7 +71,7 @@ rounds-back h (suc n) K s =
 
 undo-within : (h K : ℕ) (s : Halves) → Within h s → Within h (undo h K s)
 unfolding undo
-undo-within h K s w = record { left = new-lt h (s .r) (s .l) (kXor K) (kMul K) (w .right); right = w .left }
+undo-within h K s w = record { left = function-lt h (s .r) (s .l) K (w .right); right = w .left }
 
 pub back-within : (h n K : ℕ) (s : Halves) → Within h s → Within h (back h n K s)
 unfolding back

@@ -9,7 +9,8 @@ use lib.Pow.{pow-pos, mod-mod-pow}
 use lib.Bits.{bitAnd, bitXor, xor-lt, and-mask}
 use Rattle.lists.proofs.Numbers.{four-pow}
 use Rattle.layers.specs.declared.feistel.Halves.{Halves}
-use Rattle.layers.specs.Layer.{start, kXor, kMul, mixed, round, rounds, over}
+use Rattle.layers.specs.Layer.{start, roundFunction, round, rounds, over}
+use Rattle.layers.specs.KeyedLayers.{kXor, kMul, newRight}
 use Rattle.layers.specs.InnerRounds.{Within, turn}
 
 pub rounds-step : (h n : ℕ) (s : Halves) → 0 < n → rounds h n s ≡ rounds h (n - 1) (round h s)
@@ -24,18 +25,23 @@ low-low s h p =
     rw e at (mod-mod-pow s (32 - h) h)
 
 -- a mask is the remainder
-pub turn-mixed : (h mask l r x w : ℕ) → h ≤ 32 → mask ≡ 2 ^ h - 1 → turn mask l r x w ≡ bitXor l (mixed h r x w)
-unfolding turn mixed
-turn-mixed h mask l r x w p e = rw (e, and-mask ((bitXor r x * w % 2 ^ 32 + bitXor r x * w / 2 ^ 32) % 2 ^ 32) h, low-low (bitXor r x * w % 2 ^ 32 + bitXor r x * w / 2 ^ 32) h p)
+pub turn-new : (h mask l r x w : ℕ) → h ≤ 32 → mask ≡ 2 ^ h - 1 → turn mask l r x w ≡ newRight h l r x w
+unfolding turn newRight
+turn-new h mask l r x w p e = rw (e, and-mask ((bitXor r x * w % 2 ^ 32 + bitXor r x * w / 2 ^ 32) % 2 ^ 32) h, low-low (bitXor r x * w % 2 ^ 32 + bitXor r x * w / 2 ^ 32) h p)
+
+-- the new right half, by the key
+pub new-round : (h l r K : ℕ) → newRight h l r (kXor K) (kMul K) ≡ bitXor l (roundFunction h r K)
+unfolding newRight roundFunction
+new-round h l r K = refl
 
 -- ---- the halves stay below 2^h
 
-pub mixed-lt : (h r x w : ℕ) → mixed h r x w < 2 ^ h
-unfolding mixed
-mixed-lt h r x w = mod-lt (bitXor r x * w % 2 ^ 32 + bitXor r x * w / 2 ^ 32) (pow-pos h)
+pub new-lt : (h l r x w : ℕ) → l < 2 ^ h → newRight h l r x w < 2 ^ h
+unfolding newRight
+new-lt h l r x w p = xor-lt h l ((bitXor r x * w % 2 ^ 32 + bitXor r x * w / 2 ^ 32) % 2 ^ h) p (mod-lt _ (pow-pos h))
 
-pub new-lt : (h l r x w : ℕ) → l < 2 ^ h → bitXor l (mixed h r x w) < 2 ^ h
-new-lt h l r x w p = xor-lt h l (mixed h r x w) p (mixed-lt h r x w)
+pub function-lt : (h l r K : ℕ) → l < 2 ^ h → bitXor l (roundFunction h r K) < 2 ^ h
+function-lt h l r K p = rw (← new-round h l r K) (new-lt h l r (kXor K) (kMul K) p)
 
 pub start-within : (h key x : ℕ) → Within h (start h key x)
 unfolding start
@@ -43,7 +49,7 @@ start-within h key x = record { left = mod-lt (x / 2 ^ h) (pow-pos h); right = m
 
 pub round-within : (h : ℕ) (s : Halves) → Within h s → Within h (round h s)
 unfolding round
-round-within h s w = record { left = w .right; right = new-lt h (s .l) (s .r) (kXor (s .key)) (kMul (s .key)) (w .left) }
+round-within h s w = record { left = w .right; right = function-lt h (s .l) (s .r) (s .key) (w .left) }
 
 pub rounds-within : (h n : ℕ) (s : Halves) → Within h s → Within h (rounds h n s)
 unfolding rounds
@@ -57,4 +63,4 @@ over-lt h s w = rw four-pow (digits-lt (w .left) (w .right))
 
 -- the new right half, as the code works it out
 pub turn-lt : (h mask l r x w y : ℕ) → h ≤ 32 → mask ≡ 2 ^ h - 1 → y ≡ turn mask l r x w → l < 2 ^ h → y < 2 ^ h
-turn-lt h mask l r x w y p e q b = rw (q, turn-mixed h mask l r x w p e) (new-lt h l r x w b)
+turn-lt h mask l r x w y p e q b = rw (q, turn-new h mask l r x w p e) (new-lt h l r x w b)

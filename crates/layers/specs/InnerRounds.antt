@@ -9,8 +9,8 @@ pub record Within (h : ℕ) (s : Halves) : Type 0 where
   pub left : s .l < 2 ^ h
   pub right : s .r < 2 ^ h
 
--- the new r of a round, with a mask in place of the remainder
+-- `newRight` with a mask in place of the remainder
 unfoldable pub turn : ℕ → ℕ → ℕ → ℕ → ℕ → ℕ
-turn mask l r x w =
-    let p = bitXor r x * w in
+turn mask l r xor mul =
+    let p = bitXor r xor * mul in
     bitXor l (bitAnd ((p % 2 ^ 32 + p / 2 ^ 32) % 2 ^ 32) mask)

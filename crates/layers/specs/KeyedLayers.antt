@@ -1,14 +1,21 @@
 -- A layer under a key whose numbers and first round keys were worked out once, to be applied many times.
 -- Assumes nothing.
 use mathlib.Core.Bool.{cond}
-use Prim.Native.Nat.{ℕ, _+_, _-_, _%_}
+use Prim.Native.Nat.{ℕ, _+_, _-_, _*_, _/_, _%_, _^_}
 use lib.Dec.{leb}
-use lib.Bits.{bitXor}
+use lib.Bits.{bitOr, bitXor}
 use Rattle.lists.specs.Told.{Told, refusal, says}
 use Rattle.layers.specs.declared.KeyedLayer.{KeyedLayer}
 use Rattle.layers.specs.declared.Keyed.{Keyed}
 use Rattle.layers.specs.declared.Keyed.the-variants.{Made, Refused}
-use Rattle.layers.specs.Layer.{size, roundCount, start, kXor, kMul, mixed, nextKey, rounds, over}
+use Rattle.layers.specs.Layer.{size, roundCount, start, nextKey, rounds, over}
+
+-- What a round takes of its K: what r is xored with, and w.
+abbrev pub kXor : ℕ → ℕ
+kXor K = K % 2 ^ 32
+
+abbrev pub kMul : ℕ → ℕ
+kMul K = bitOr (K / 2 ^ 32) 1
 
 -- Layer j: for each of the first four rounds what its K gives, then the K after them, and how many rounds are more than
 -- four (no layer has fewer).
@@ -42,9 +49,11 @@ toldKeyed (Refused c) = refusal c
 unfoldable pub keyed : ℕ → ℕ → Told KeyedLayer
 keyed j key = cond (leb j 14) (says (keyedLayer j key)) (refusal 12)
 
--- the new r of a round
-abbrev pub newRight : ℕ → ℕ → ℕ → ℕ → ℕ → ℕ
-newRight h l r x w = bitXor l (mixed h r x w)
+-- the new r of a round, by what it takes of its K
+unfoldable pub newRight : ℕ → ℕ → ℕ → ℕ → ℕ → ℕ
+newRight h l r xor mul =
+    let p = bitXor r xor * mul in
+    bitXor l ((p % 2 ^ 32 + p / 2 ^ 32) % 2 ^ h)
 
 -- What any such record gives at any x: four rounds by its own numbers, then those that are more from its key. For the
 -- record of layer j that is layer j at x (proofs/KeyedLaws.antt, `keyed-layer`). The half's bits count modulo 16.

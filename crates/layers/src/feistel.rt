@@ -2,7 +2,8 @@
 ghost use mathlib.Core.Path.{_≡_};
 ghost use Prim.Native.Nat.{_-_, _*_, _^_, _<_};
 ghost use lib.Bits.{bitXor};
-ghost use Rattle.layers.specs.Layer.{start, kXor, kMul, nextKey, round, rounds, over};
+ghost use Rattle.layers.specs.Layer.{start, nextKey, round, rounds, over};
+ghost use Rattle.layers.specs.KeyedLayers.{kXor, kMul};
 ghost use Rattle.layers.specs.InnerRounds.{Within, turn};
 
 // The two halves, l and r, and the key K of the next round.
@@ -31,7 +32,7 @@ pub(crate) fn start_of(h: u32, key: u64, x: u32) -> Halves
     Halves { l, r, key }
 }
 
-// What r is xored with in a round.
+// What r is xored with in the round of a key.
 pub(crate) fn k_xor(key: u64) -> u32
     ensures { λ x. ⌜ x ≡ kXor key ⌝ }
 {
@@ -45,17 +46,17 @@ pub(crate) fn k_mul(key: u64) -> u32
     ((key / 0x1_0000_0000) as u32) | 1
 }
 
-fn product(r: u32, x: u32, w: u32) -> u64
-    ensures { λ p. ⌜ p ≡ bitXor r x * w ⌝ }
+fn product(r: u32, xor: u32, mul: u32) -> u64
+    ensures { λ p. ⌜ p ≡ bitXor r xor * mul ⌝ }
 {
-    ((r as u64) ^ (x as u64)) * (w as u64)
+    ((r as u64) ^ (xor as u64)) * (mul as u64)
 }
 
 // The new right half of a round. The mask, and not h, so that a loop works it out once.
-pub(crate) fn turned(mask: u32, l: u32, r: u32, x: u32, w: u32) -> u32
-    ensures { λ y. ⌜ y ≡ turn mask l r x w ⌝ }
+pub(crate) fn turned(mask: u32, l: u32, r: u32, xor: u32, mul: u32) -> u32
+    ensures { λ y. ⌜ y ≡ turn mask l r xor mul ⌝ }
 {
-    let p = product(r, x, w);
+    let p = product(r, xor, mul);
     let sum = (p % 0x1_0000_0000 + p / 0x1_0000_0000) % 0x1_0000_0000;
     l ^ ((sum as u32) & mask)
 }

@@ -3,12 +3,10 @@
 use mathlib.Core.Path.{_≡_}
 use Prim.Native.Nat.{ℕ, _%_, _≤_}
 use native.Mathlib.Omega.{arith}
-use lib.Bits.{bitXor}
 use borrow.Author.Needs.{needs}
-use Rattle.layers.specs.Layer.{mixed}
-use Rattle.layers.specs.KeyedLayers.{applied}
+use Rattle.layers.specs.KeyedLayers.{newRight, applied}
 use Rattle.layers.specs.InnerRounds.{Within, turn}
-use Rattle.layers.proofs.RoundLaws.{turn-mixed, turn-lt, start-within, rounds-within}
+use Rattle.layers.proofs.RoundLaws.{turn-new, turn-lt, start-within, rounds-within}
 use Rattle.layers.proofs.KeyedLayer.apply.Statement.{statement}
 use Rattle.layers.proofs.KeyedLayer.apply.Tie as tie
 
@@ -61,7 +59,7 @@ returns c =
     let h = halved .before .before .before .args .self .half % 16 in
     let p : h ≤ 32 = omega arith in
     let mask = halved .before .mask-of in
-    let mixes : (l r x w : ℕ) → turn (mask .result) l r x w ≡ bitXor l (mixed h r x w) = λ l r x w. turn-mixed h _ l r x w p (mask .ensures) in
+    let masks : (l r x w : ℕ) → turn (mask .result) l r x w ≡ newRight h l r x w = λ l r x w. turn-new h _ l r x w p (mask .ensures) in
     simp (
       c .over-of .ensures,
       c .before .rounds-of .ensures,
@@ -70,7 +68,7 @@ returns c =
       second .turned2 .ensures,
       first .turned .ensures,
       halved .start-of .ensures,
-      mixes,
+      masks,
     )
 
 pub apply-spec : {M : Type 1} → statement M

@@ -8,7 +8,7 @@ use Rattle.layers.proofs.feistel.product.Statement.{statement}
 use Rattle.layers.proofs.feistel.product.Tie as tie
 
 mul-result : tie.Need-mul-result
-mul-result c = record { fits = mul-lt-pow 32 (xor-lt 32 (c .args .r) (c .args .x) (omega arith) (omega arith)) (omega arith) }
+mul-result c = record { fits = mul-lt-pow 32 (xor-lt 32 (c .args .r) (c .args .xor) (omega arith) (omega arith)) (omega arith) }
 
 returns : tie.Need-returns
 returns c = search needs

@@ -3,7 +3,7 @@
 use native.Mathlib.Omega.{arith}
 use borrow.Author.Needs.{needs}
 use Rattle.layers.specs.Layer.{round}
-use Rattle.layers.proofs.RoundLaws.{turn-mixed}
+use Rattle.layers.proofs.RoundLaws.{turn-new, new-round}
 use Rattle.layers.proofs.feistel.round_of.Statement.{statement}
 use Rattle.layers.proofs.feistel.round_of.Tie as tie
 
@@ -23,7 +23,7 @@ returns : tie.Need-returns
 unfolding round
 returns c =
     let from = c .before .before .before .before in
-    rw (c .next-key .ensures, c .before .turned .ensures, c .before .before .k-mul .ensures, c .before .before .before .k-xor .ensures, turn-mixed (from .args .h) _ _ _ _ _ (omega arith) (from .pre .1))
+    rw (c .next-key .ensures, c .before .turned .ensures, c .before .before .k-mul .ensures, c .before .before .before .k-xor .ensures, turn-new (from .args .h) _ _ _ _ _ (omega arith) (from .pre .1), new-round (from .args .h))
 
 pub round-of-spec : {M : Type 1} → statement M
 round-of-spec =
