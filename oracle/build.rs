@@ -22,10 +22,9 @@ const OPENED: [(&str, &str, &str); 1] = [(
 
 fn main() {
     let here = PathBuf::from(env::var("CARGO_MANIFEST_DIR").unwrap());
-    let source = match env::var("CHOOSE_K_SRC") {
-        Ok(folder) => PathBuf::from(folder),
-        Err(_) => here.join("../../shared/docs/src"),
-    };
+    let folder = env::var("CHOOSE_K_SRC").unwrap_or("../shared/docs/src".into());
+    // A relative folder is meant from the repository's own.
+    let source = here.join("..").join(folder);
     println!("cargo:rerun-if-env-changed=CHOOSE_K_SRC");
     let out = PathBuf::from(env::var("OUT_DIR").unwrap());
     let mut modules = String::new();

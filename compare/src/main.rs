@@ -8,11 +8,12 @@ use proved::Refused;
 type Trial = fn(&mut Draws) -> Option<String>;
 
 /// A call, how many of 100 inputs go to it, and the trial.
-const CALLS: [(&str, u64, Trial); 5] = [
+const CALLS: [(&str, u64, Trial); 6] = [
     ("wrapping_mul", 10, wrapping_mul),
     ("rotate_right", 10, rotate_right),
     ("splitmix64", 10, splitmix64),
-    ("layer_apply", 60, layer_apply),
+    ("layer_apply", 50, layer_apply),
+    ("KeyedLayer, over 0..n", 10, layer_xors),
     ("layer_apply, refusals", 10, layer_refusals),
 ];
 
@@ -98,6 +99,19 @@ fn layer_apply(draws: &mut Draws) -> Option<String> {
     differ(
         format!("layer {layer} key {key:#x} x {x}"),
         proved::layer_apply(layer, key, x),
+        Ok(theirs),
+    )
+}
+
+/// A layer made once and applied to the first inputs, their outputs xored.
+fn layer_xors(draws: &mut Draws) -> Option<String> {
+    let layer = draws.below(15) as u32;
+    let key = word(draws);
+    let n = draws.below(1 << (2 * layer + 2).min(6)) as u32 + 1;
+    let theirs = (0..n).fold(0, |sum, x| sum ^ oracle::layer_apply(layer, key, x));
+    differ(
+        format!("layer {layer} key {key:#x} over 0..{n}"),
+        proved::layer_xors(layer, key, n),
         Ok(theirs),
     )
 }

@@ -6,8 +6,8 @@ use native.Mathlib.Nat.{not-suc-le-zero, mod-lt}
 use native.Mathlib.Omega.{arith}
 use lib.Arith.{digits-lt}
 use lib.Pow.{pow-pos, mod-mod-pow}
-use lib.Bits.{bitAnd, bitXor, xor-lt, and-mask}
-use Rattle.lists.proofs.Numbers.{four-pow}
+use lib.Bits.{bitAnd, bitXor, xor-lt, or-lt, and-mask}
+use Rattle.lists.proofs.Numbers.{four-pow, mul-lt-pow}
 use Rattle.layers.specs.declared.feistel.Halves.{Halves}
 use Rattle.layers.specs.Layer.{start, roundFunction, round, rounds, over}
 use Rattle.layers.specs.KeyedLayers.{kXor, kMul, newRight}
@@ -33,6 +33,11 @@ turn-new h mask l r x w p e = rw (e, and-mask ((bitXor r x * w % 2 ^ 32 + bitXor
 pub new-round : (h l r K : ℕ) → newRight h l r (kXor K) (kMul K) ≡ bitXor l (roundFunction h r K)
 unfolding newRight roundFunction
 new-round h l r K = refl
+
+-- "p = u × w, below 2^64"
+pub product-lt : (r K : ℕ) → r < 2 ^ 32 → K < 2 ^ 64 → bitXor r (kXor K) * kMul K < 2 ^ 64
+product-lt r K p q =
+    mul-lt-pow 32 (xor-lt 32 r (K % 2 ^ 32) p (omega arith)) (or-lt 32 (K / 2 ^ 32) 1 (omega arith) (omega arith))
 
 -- ---- the halves stay below 2^h
 

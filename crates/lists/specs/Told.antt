@@ -3,7 +3,7 @@
 -- Assumes nothing.
 use Prim.Native.Nat.{ℕ}
 
--- one of the numbered refusals, or the values of an answer that is none
+-- one of the numbered refusals, or what a call that is not refused answers
 pub data Told (A : Type 0) : Type 0 where
   refusal : ℕ → Told A
   says : A → Told A
