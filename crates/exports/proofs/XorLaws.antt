@@ -6,7 +6,7 @@ use native.Mathlib.Omega.{arith}
 use borrow.Author.Tests.{lt-leb, le-leb}
 use native.Mathlib.Numerals.{add-one}
 use lib.Bits.{bitXor}
-use Rattle.lists.specs.Told.{Told, refusal, says}
+use Rattle.lists.specs.Told.{refusal, says}
 use Rattle.lists.proofs.Tests.{by-below}
 use Rattle.layers.specs.declared.KeyedLayer.{KeyedLayer}
 use Rattle.layers.specs.KeyedLayers.{keyedLayer, keyed, applied}

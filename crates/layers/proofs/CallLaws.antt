@@ -3,9 +3,8 @@
 use mathlib.Core.Path.{_≡_}
 use mathlib.Core.Logic.{_⊎_, inl, inr}
 use Prim.Native.Nat.{ℕ, _≤_, _<_}
-use native.Mathlib.Omega.{arith}
 use borrow.Author.Tests.{lt-leb, le-leb, lt-ltb, le-ltb}
-use Rattle.lists.specs.Told.{Told, refusal, says}
+use Rattle.lists.specs.Told.{refusal, says}
 use Rattle.lists.proofs.Tests.{by-below}
 use Rattle.layers.specs.Layer.{size, layer}
 use Rattle.layers.specs.Calls.{layerApply}

@@ -2,7 +2,7 @@
 -- over the number of rounds.
 -- Assumes nothing.
 use mathlib.Core.Path.{_≡_, refl, sym, ap, _∙_}
-use Prim.Native.Nat.{ℕ, zero, suc, _+_, _^_, _<_}
+use Prim.Native.Nat.{ℕ, zero, suc, _+_}
 use lib.Bits.{bitXor}
 use Rattle.lists.proofs.Numbers.{xor-cancel}
 use Rattle.layers.specs.declared.feistel.Halves.{Halves}

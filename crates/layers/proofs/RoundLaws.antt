@@ -1,12 +1,12 @@
 -- Rounds one after the other, and the halves they stay within.
 -- Assumes nothing.
-use mathlib.Core.Path.{_≡_, refl, sym, ap, _∙_}
+use mathlib.Core.Path.{_≡_, refl}
 use Prim.Native.Nat.{ℕ, zero, suc, _+_, _-_, _*_, _/_, _%_, _^_, _≤_, _<_}
 use native.Mathlib.Nat.{not-suc-le-zero, mod-lt}
 use native.Mathlib.Omega.{arith}
 use lib.Arith.{digits-lt}
 use lib.Pow.{pow-pos, mod-mod-pow}
-use lib.Bits.{bitAnd, bitXor, xor-lt, or-lt, and-mask}
+use lib.Bits.{bitXor, xor-lt, or-lt, and-mask}
 use Rattle.lists.proofs.Numbers.{four-pow, mul-lt-pow}
 use Rattle.layers.specs.declared.feistel.Halves.{Halves}
 use Rattle.layers.specs.Layer.{start, roundFunction, round, rounds, over}

@@ -1,12 +1,12 @@
--- Numbers and their bits: products, masks, halves, xor.
+-- Numbers and their bits: products, powers, xor.
 -- Assumes nothing.
 use mathlib.Core.Path.{_≡_, refl, sym, ap, ap₂, _∙_}
-use Prim.Native.Nat.{ℕ, zero, suc, _+_, _-_, _*_, _/_, _%_, _^_, _≤_, _<_}
-use native.Mathlib.Nat.{le-of-lt, lt-of-le-of-lt, lt-of-lt-of-le, mul-le-mul-left, mul-lt-mul-of-pos-right, one-mul, mod-lt, pow-suc, div-add-mod'}
+use Prim.Native.Nat.{ℕ, zero, suc, _+_, _*_, _/_, _%_, _^_, _<_}
+use native.Mathlib.Nat.{le-of-lt, lt-of-le-of-lt, mul-le-mul-left, mul-lt-mul-of-pos-right, one-mul, mod-lt, pow-suc, div-add-mod'}
 use native.Mathlib.Omega.{arith}
 use lib.Arith.{bin-ind}
-use lib.Pow.{pow-pos, pow-add, pow-mono, shl-exact}
-use lib.Bits.{bitAnd, bitXor, differ, and-mask, xor-step, xor-shr, xor-mod, xor-self}
+use lib.Pow.{pow-pos, pow-add, shl-exact}
+use lib.Bits.{bitXor, differ, xor-step, xor-shr, xor-mod, xor-self}
 
 -- the product of two numbers of k bits has at most k + k
 pub mul-lt-pow : (k : ℕ) {a b : ℕ} → a < 2 ^ k → b < 2 ^ k → a * b < 2 ^ (k + k)
@@ -16,14 +16,6 @@ mul-lt-pow k {a} {b} ha hb =
 -- `1 << h` in a word of w bits
 pub one-shl : (w h : ℕ) → h < w → (1 * 2 ^ h) % 2 ^ w ≡ 2 ^ h
 one-shl w h l = shl-exact {a = 1} 1 h w (omega arith) (omega arith) ∙ one-mul (2 ^ h)
-
--- `x & ((1 << h) - 1)`
-pub masked : (w x h : ℕ) → h < w → bitAnd x ((1 * 2 ^ h) % 2 ^ w - 1) ≡ x % 2 ^ h
-masked w x h l = rw (one-shl w h l) (and-mask x h)
-
--- the low bits have a narrower type
-pub mod-lt-pow : (w x : ℕ) {h : ℕ} → h ≤ w → x % 2 ^ h < 2 ^ w
-mod-lt-pow w x {h} l = lt-of-lt-of-le (mod-lt x (pow-pos h)) (pow-mono l)
 
 -- a number of h base-4 digits has two halves of h bits
 pub four-pow : (h : ℕ) → 4 ^ h ≡ 2 ^ h * 2 ^ h

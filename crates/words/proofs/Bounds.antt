@@ -1,6 +1,6 @@
 -- What the definitions give is again a word.
 -- Assumes nothing.
-use Prim.Native.Nat.{ℕ, _*_, _/_, _%_, _^_, _<_}
+use Prim.Native.Nat.{ℕ, _*_, _/_, _^_, _<_}
 use native.Mathlib.Nat.{mod-lt, lt-of-le-of-lt}
 use lib.Pow.{pow-pos, shr-le}
 use lib.Bits.{bitXor, xor-lt}

@@ -1,6 +1,6 @@
 -- `exports::perillajamb_layer_apply` meets its contract.
 -- Assumes nothing.
-use mathlib.Core.Path.{_≡_, sym, ap, _∙_}
+use mathlib.Core.Path.{sym, ap, _∙_}
 use borrow.Author.Needs.{needs}
 use Rattle.layers.specs.declared.Applied.{Applied}
 use Rattle.layers.specs.Calls.{told}

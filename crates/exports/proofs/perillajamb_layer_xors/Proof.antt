@@ -1,8 +1,7 @@
 -- `exports::perillajamb_layer_xors` meets its contract.
 -- Assumes nothing.
-use mathlib.Core.Path.{_≡_, sym, ap, _∙_}
+use mathlib.Core.Path.{sym, ap, _∙_}
 use borrow.Author.Needs.{needs}
-use Rattle.layers.specs.declared.Keyed.{Keyed}
 use Rattle.layers.specs.KeyedLayers.{toldKeyed}
 use Rattle.exports.proofs.XorLaws.{made, not-made}
 use Rattle.exports.proofs.perillajamb_layer_xors.Statement.{statement}

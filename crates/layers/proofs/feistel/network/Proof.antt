@@ -1,6 +1,5 @@
 -- `layers::feistel::network` meets its contract.
 -- Assumes nothing.
-use mathlib.Core.Path.{_≡_}
 use native.Mathlib.Omega.{arith}
 use borrow.Author.Needs.{needs}
 use Rattle.layers.proofs.RoundLaws.{start-within, rounds-within}
