@@ -8,10 +8,11 @@ use native.Mathlib.Omega.{arith}
 use lib.Dec.{eqb, lit<}
 use lib.ListN.{length}
 use lib.Pow.{pow-pos, split, high, low}
-use Rattle.lists.specs.Lists.{keep, below, range}
+use Rattle.lists.specs.Lists.{keep, below, zeroTo}
 use Rattle.lists.proofs.Numbers.{four-pow, four-pow-double}
 use Rattle.lists.proofs.Tests.{by-below, below-yes, below-no}
-use Rattle.lists.proofs.Counting.{Permutation, keep-same, inputs-below}
+use Rattle.lists.proofs.Keeping.{keep-same}
+use Rattle.lists.proofs.Permutations.{Permutation, inputs-below}
 use borrow.Author.Tests.{eq-eqb, ne-eqb}
 use Rattle.layers.specs.declared.feistel.Halves.{Halves}
 use Rattle.layers.specs.Layer.{size, roundCount, start, rounds, over, layer, topBits}
@@ -101,7 +102,7 @@ top-zero j y =
     (λ (l : 4 ^ j ≤ y). ne-eqb (y / 2 ^ (2 * j)) 0 (above j y l) ∙ sym (below-no y (4 ^ j) l))
 
 -- exactly 4^j inputs have outputs with the two top bits 00
-pub quarter : (j key : ℕ) → length (keep (λ x. eqb (topBits j (layer j key x)) 0) (range (size j))) ≡ 4 ^ j
+pub quarter : (j key : ℕ) → length (keep (λ x. eqb (topBits j (layer j key x)) 0) (zeroTo (size j))) ≡ 4 ^ j
 quarter j key =
-    ap length (keep-same _ _ (λ x. top-zero j (layer j key x)) (range (size j)))
+    ap length (keep-same _ _ (λ x. top-zero j (layer j key x)) (zeroTo (size j)))
     ∙ inputs-below (layer-permutes j key) (4 ^ j) (pow-le-pow-right (lit< tt) (omega arith))

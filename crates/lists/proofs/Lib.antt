@@ -1,4 +1,6 @@
 pub mod Numbers
 pub mod Tests
+pub mod Keeping
 pub mod Counting
+pub mod Permutations
 pub mod Tables

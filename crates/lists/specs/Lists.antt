@@ -21,8 +21,8 @@ unfoldable pub below : ℕ → ℕ → Bool
 below n x = ltb x n
 
 -- how many entries are below n
-abbrev pub count : ℕ → List ℕ → ℕ
-count n xs = length (keep (below n) xs)
+abbrev pub countBelow : ℕ → List ℕ → ℕ
+countBelow n xs = length (keep (below n) xs)
 
 -- the test: is v
 unfoldable pub same : ℕ → ℕ → Bool
@@ -43,6 +43,6 @@ abbrev pub from : ℕ → ℕ → List ℕ
 from a zero = []
 from a (suc c) = a ∷ from (suc a) c
 
--- 0..n
-abbrev pub range : ℕ → List ℕ
-range n = from 0 n
+-- 0..n, as document 01 writes it: n itself is left out
+abbrev pub zeroTo : ℕ → List ℕ
+zeroTo n = from 0 n
