@@ -1,6 +1,9 @@
 pub mod Numbers
 pub mod Tests
+pub mod Places
 pub mod Keeping
+pub mod Members
+pub mod Extremes
 pub mod Counting
 pub mod Permutations
 pub mod Tables

@@ -25,10 +25,17 @@ pub from-length : (f : ℕ → ℕ) (a c : ℕ) → length (map f (from a c)) �
 from-length f a zero = refl
 from-length f a (suc c) = ap suc (from-length f (suc a) c)
 
-from-none : (f : ℕ → ℕ) (v a c : ℕ) → ((x : ℕ) → a ≤ x → x < a + c → f x ≢ v) → occ v (map f (from a c)) ≡ 0
+pub from-none : (f : ℕ → ℕ) (v a c : ℕ) → ((x : ℕ) → a ≤ x → x < a + c → f x ≢ v) → occ v (map f (from a c)) ≡ 0
 from-none f v a zero h = refl
 from-none f v a (suc c) h =
     rw (same-no (f a) v (h a (omega arith) (omega arith))) (from-none f v (suc a) c (λ x l u. h x (omega arith) (omega arith)))
+
+pub from-some : (f : ℕ → ℕ) (i a c : ℕ) → a ≤ i → i < a + c → 0 < occ (f i) (map f (from a c))
+from-some f i a zero l u = absurd (omega arith)
+from-some f i a (suc c) l u =
+    by-same (f a) (f i)
+    (λ e. rw (same-yes (f a) (f i) e) (omega arith))
+    (λ d. rw (same-no (f a) (f i) d) (by-same a i (λ e. absurd (d (ap f e))) (λ n. from-some f i (suc a) c (omega arith) (omega arith))))
 
 module _ {N : ℕ} {f g : ℕ → ℕ} (p : Permutation N f g) where
   from-all : (a c : ℕ) → a + c ≤ N → All (below N) (map f (from a c))

@@ -1,12 +1,12 @@
--- The tests `below` and `same`: from a fact to the test, from the test to the fact, and by cases.
+-- The tests `below`, `notBelow` and `same`: from a fact to the test, from the test to the fact, and by cases.
 -- Assumes nothing.
 use mathlib.Core.Path.{_≡_, refl, sym, _∙_}
 use mathlib.Core.Logic.{_≢_}
 use mathlib.Core.Bool.{Bool, true, false, true≢false}
 use Prim.Native.Nat.{ℕ, _≤_, _<_}
 use native.Mathlib.Omega.{arith}
-use borrow.Author.Tests.{ltb-true, ltb-false, eqb-true, lt-ltb, le-ltb, eq-eqb, ne-eqb}
-use Rattle.lists.specs.Lists.{below, same}
+use borrow.Author.Tests.{ltb-true, ltb-false, eqb-true, lt-ltb, le-ltb, le-leb, lt-leb, eq-eqb, ne-eqb}
+use Rattle.lists.specs.Lists.{below, notBelow, same}
 
 pub below-yes : (x n : ℕ) → x < n → below n x ≡ true
 unfolding below
@@ -23,6 +23,14 @@ below→lt {x} {n} e = ltb-true x n e
 pub not-below→le : {x n : ℕ} → below n x ≡ false → n ≤ x
 unfolding below
 not-below→le {x} {n} e = ltb-false x n e
+
+pub not-below-yes : (x n : ℕ) → n ≤ x → notBelow n x ≡ true
+unfolding notBelow
+not-below-yes x n h = le-leb n x h
+
+pub not-below-no : (x n : ℕ) → x < n → notBelow n x ≡ false
+unfolding notBelow
+not-below-no x n h = lt-leb n x h
 
 pub same-yes : (x v : ℕ) → x ≡ v → same v x ≡ true
 unfolding same

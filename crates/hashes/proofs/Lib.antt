@@ -1,0 +1,9 @@
+pub mod BucketLaws
+pub mod StateLaws
+pub mod LoopLaws
+pub mod PrevLaws
+pub mod NextLaws
+pub mod PlaceLaws
+pub mod CallLaws
+pub mod LargestLaws
+pub mod WalkLaws

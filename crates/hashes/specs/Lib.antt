@@ -1,0 +1,5 @@
+pub mod Hashes
+pub mod Next
+pub mod Calls
+pub mod InnerSearch
+pub mod Walks

@@ -1,0 +1,91 @@
+-- The two walks. Document 01: "Both hash walks, one hash a call, then none."
+-- Assumes nothing.
+use mathlib.Core.Bool.{cond}
+use mathlib.Core.List.{List, [], _∷_}
+use mathlib.Core.Option.{Option, none, some}
+use Prim.Native.Nat.{ℕ, zero, suc, _+_, _-_, _^_}
+use lib.Dec.{ltb}
+use Rattle.lists.specs.Told.{Told, refusal, says}
+use Rattle.lists.specs.Lists.{keep, from, down}
+use Rattle.hashes.specs.declared.ConsistentHashRevIterator.{ConsistentHashRevIterator}
+use Rattle.hashes.specs.declared.ConsistentHashIterator.{ConsistentHashIterator}
+use Rattle.hashes.specs.declared.Falling.{Falling}
+use Rattle.hashes.specs.declared.Falling.the-variants as falling
+use Rattle.hashes.specs.declared.Rising.{Rising}
+use Rattle.hashes.specs.declared.Rising.the-variants as rising
+use Rattle.hashes.specs.declared.Fell.{Fell}
+use Rattle.hashes.specs.declared.Rose.{Rose}
+use Rattle.hashes.specs.Hashes.{isHash, prev}
+use Rattle.hashes.specs.Next.{low, smallestFrom}
+use Rattle.hashes.specs.Calls.{told, limited}
+
+-- what a call of `next` says, and the walk after it
+pub record Step (W : Type 0) : Type 0 where
+  pub said : Told (Option ℕ)
+  pub walk : W
+
+-- ---- falling
+
+-- 01's number, or the walk
+abbrev pub toldFalling : Falling → Told ConsistentHashRevIterator
+toldFalling (falling.Made w) = says w
+toldFalling (falling.Refused c) = refusal c
+
+-- the walk from n down
+abbrev pub fallingFrom : ℕ → ℕ → Told ConsistentHashRevIterator
+fallingFrom n s = limited n (record { state = s; n = n })
+
+abbrev pub fell : Fell → Step ConsistentHashRevIterator
+fell f = record { said = told (f .found); walk = f .walk }
+
+-- after a hash the walk goes on below it; where there is none it stays
+abbrev pub fallen : ConsistentHashRevIterator → Option ℕ → Step ConsistentHashRevIterator
+fallen w none = record { said = says none; walk = w }
+fallen w (some x) = record { said = says (some x); walk = record { state = w .state; n = x } }
+
+-- any walk: the largest hash below its n. 1 for an n above 2^62.
+unfoldable pub fall : ConsistentHashRevIterator → Step ConsistentHashRevIterator
+fall w = cond (ltb (2 ^ 62) (w .n)) (record { said = refusal 1; walk = w }) (fallen w (prev (w .state) (w .n)))
+
+-- every hash of s below n, in falling order, each once
+unfoldable pub hashesBelow : ℕ → ℕ → List ℕ
+hashesBelow s n = keep (isHash s) (down n)
+
+-- ---- rising
+
+abbrev pub toldRising : Rising → Told ConsistentHashIterator
+toldRising (rising.Made w) = says w
+toldRising (rising.Refused c) = refusal c
+
+-- the walk from n up: it starts at `low n`
+abbrev pub risingFrom : ℕ → ℕ → Told ConsistentHashIterator
+risingFrom n s = limited n (record { state = s; low = low n })
+
+abbrev pub rose : Rose → Step ConsistentHashIterator
+rose r = record { said = told (r .found); walk = r .walk }
+
+-- after a hash the walk goes on above it; where there is none it stays
+abbrev pub risen : ConsistentHashIterator → Option ℕ → Step ConsistentHashIterator
+risen w none = record { said = says none; walk = w }
+risen w (some x) = record { said = says (some x); walk = record { state = w .state; low = x + 1 } }
+
+-- any walk: the smallest hash of its `low` or more
+unfoldable pub rise : ConsistentHashIterator → Step ConsistentHashIterator
+rise w = risen w (smallestFrom (w .state) (w .low))
+
+-- every hash of s from m up, in rising order, each once. No hash is 2^63 or more.
+unfoldable pub hashesFrom : ℕ → ℕ → List ℕ
+hashesFrom s m = keep (isHash s) (from m (2 ^ 63 - m))
+
+-- ---- many calls
+
+-- what k calls of `next` say, each on the walk that the one before left
+unfoldable pub answers : {W : Type 0} → (W → Step W) → ℕ → W → List (Told (Option ℕ))
+answers step zero w = []
+answers step (suc k) w = step w .said ∷ answers step k (step w .walk)
+
+-- k answers: the numbers of a list, one a call, then none for ever
+unfoldable pub oneByOne : ℕ → List ℕ → List (Told (Option ℕ))
+oneByOne zero xs = []
+oneByOne (suc k) [] = says none ∷ oneByOne k []
+oneByOne (suc k) (x ∷ xs) = says (some x) ∷ oneByOne k xs
