@@ -1,5 +1,7 @@
 //! Times the proved library beside the original: the same inputs, one run, the lowest of several measurements of each.
 
+mod hashes;
+
 use std::hint::black_box;
 use std::time::Instant;
 
@@ -86,4 +88,5 @@ fn main() {
         "splitmix64, each of the one before",
         measure(calls, || chain(&proved::splitmix64), || chain(&splitmix64)),
     );
+    hashes::all();
 }

@@ -1,20 +1,30 @@
 //! The proved library against the original on random and boundary inputs. compare [N]: N million inputs (default 1).
 //! Prints the first difference with its input, and ends with status 1.
 
+mod hashes;
+mod layers;
+mod words;
+
 use oracle::Draws;
-use proved::Refused;
 
 /// Tries one input: nothing where both agree, else the input and both answers.
 type Trial = fn(&mut Draws) -> Option<String>;
 
 /// A call, how many of 100 inputs go to it, and the trial.
-const CALLS: [(&str, u64, Trial); 6] = [
-    ("wrapping_mul", 10, wrapping_mul),
-    ("rotate_right", 10, rotate_right),
-    ("splitmix64", 10, splitmix64),
-    ("layer_apply", 50, layer_apply),
-    ("KeyedLayer, over 0..n", 10, layer_xors),
-    ("layer_apply, refusals", 10, layer_refusals),
+const CALLS: [(&str, u64, Trial); 13] = [
+    ("wrapping_mul", 4, words::wrapping_mul),
+    ("rotate_right", 4, words::rotate_right),
+    ("splitmix64", 4, words::splitmix64),
+    ("layer_apply", 15, layers::layer_apply),
+    ("KeyedLayer, over 0..n", 4, layers::layer_xors),
+    ("layer_apply, refusals", 5, layers::refusals),
+    ("seq_builder", 4, hashes::seq_builder),
+    ("prev", 20, hashes::prev),
+    ("into_prev", 5, hashes::into_prev),
+    ("next", 20, hashes::next),
+    ("falling walk, digested", 5, hashes::falling_digest),
+    ("rising walk, digested", 5, hashes::rising_digest),
+    ("hashes, refusals", 5, hashes::refusals),
 ];
 
 fn main() {
@@ -49,85 +59,6 @@ fn word(draws: &mut Draws) -> u64 {
     }
 }
 
-fn below(draws: &mut Draws, size: u64) -> u32 {
-    let x = match draws.below(16) {
-        0 => 0,
-        1 => size - 1,
-        2 => size / 4,
-        3 => size / 4 - 1,
-        _ => draws.below(size),
-    };
-    x as u32
-}
-
 fn differ<T: PartialEq + std::fmt::Debug>(input: String, ours: T, theirs: T) -> Option<String> {
     (ours != theirs).then(|| format!("{input}: proved {ours:?}, original {theirs:?}"))
-}
-
-fn wrapping_mul(draws: &mut Draws) -> Option<String> {
-    let (a, b) = (word(draws), word(draws));
-    differ(
-        format!("{a:#x} * {b:#x}"),
-        proved::wrapping_mul(a, b),
-        a.wrapping_mul(b),
-    )
-}
-
-fn rotate_right(draws: &mut Draws) -> Option<String> {
-    let (x, places) = (word(draws), word(draws) as u32);
-    differ(
-        format!("{x:#x} by {places}"),
-        proved::rotate_right(x, places),
-        x.rotate_right(places),
-    )
-}
-
-fn splitmix64(draws: &mut Draws) -> Option<String> {
-    let v = word(draws);
-    differ(
-        format!("{v:#x}"),
-        proved::splitmix64(v),
-        oracle::splitmix64(v),
-    )
-}
-
-fn layer_apply(draws: &mut Draws) -> Option<String> {
-    let layer = draws.below(15) as u32;
-    let key = word(draws);
-    let x = below(draws, 1 << (2 * layer + 2));
-    let theirs = oracle::layer_apply(layer, key, x);
-    differ(
-        format!("layer {layer} key {key:#x} x {x}"),
-        proved::layer_apply(layer, key, x),
-        Ok(theirs),
-    )
-}
-
-/// A layer made once and applied to the first inputs, their outputs xored.
-fn layer_xors(draws: &mut Draws) -> Option<String> {
-    let layer = draws.below(15) as u32;
-    let key = word(draws);
-    let n = draws.below(1 << (2 * layer + 2).min(6)) as u32 + 1;
-    let theirs = (0..n).fold(0, |sum, x| sum ^ oracle::layer_apply(layer, key, x));
-    differ(
-        format!("layer {layer} key {key:#x} over 0..{n}"),
-        proved::layer_xors(layer, key, n),
-        Ok(theirs),
-    )
-}
-
-/// By document 01, since the original tests neither the layer nor the input.
-fn layer_refusals(draws: &mut Draws) -> Option<String> {
-    let key = word(draws);
-    let (layer, x) = if draws.below(2) == 0 {
-        ((word(draws) as u32).max(15), word(draws) as u32)
-    } else {
-        let layer = draws.below(15) as u32;
-        (layer, (word(draws) as u32).max(1 << (2 * layer + 2)))
-    };
-    differ(
-        format!("layer {layer} key {key:#x} x {x}"),
-        proved::layer_apply(layer, key, x),
-        Err(Refused(12)),
-    )
 }

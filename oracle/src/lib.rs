@@ -4,11 +4,16 @@
 
 include!(concat!(env!("OUT_DIR"), "/original.rs"));
 
+mod hashes;
 mod stand_in;
 
 pub use choose_k::ConsistentChooseKHasher;
-pub use consistent_hash::{ConsistentHasher, HashSeqBuilder, HashSequence, ManySeqBuilder};
+pub use consistent_hash::{
+    ConsistentHashIterator, ConsistentHashRevIterator, ConsistentHasher, HashSeqBuilder,
+    HashSequence, ManySeqBuilder,
+};
 pub use consistent_permutation::splitmix64;
+pub use hashes::{falling_digest, into_prev, next, prev, rising_digest, seq_builder};
 pub use stand_in::{Draws, StandIn};
 
 /// The original's `layer_apply`, which is not public there, by layer instead of bits.

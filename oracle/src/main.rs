@@ -1,6 +1,8 @@
 //! Prints answers of the original for stated inputs, a line each: a letter, then numbers in hexadecimal.
 //!
-//! oracle mix | layers | refusals: the answers. oracle expected: what the replay of all of them prints.
+//! oracle mix | layers | hashes | refusals: the answers. oracle expected: what the replay of all of them prints.
+
+mod hash_sets;
 
 use oracle::{layer_apply, splitmix64, Draws};
 
@@ -48,7 +50,7 @@ fn layers() -> Vec<String> {
 }
 
 /// `l layer key x 2^32 + 12`: by document 01, since the original tests neither the layer nor the input.
-fn refusals() -> Vec<String> {
+fn layer_refusals() -> Vec<String> {
     let refused = (1u64 << 32) + 12;
     let mut lines = Vec::new();
     for key in KEYS {
@@ -67,14 +69,19 @@ fn refusals() -> Vec<String> {
     lines
 }
 
+fn refusals() -> Vec<String> {
+    [layer_refusals(), hash_sets::refusals()].concat()
+}
+
 /// A set's name, where its answers are from, and its lines.
 type Set = (&'static str, &'static str, fn() -> Vec<String>);
 
 const ORIGINAL: &str = "consistent-choose-k of github/rust-gems 9804c5bc17, built in release";
 
-const SETS: [Set; 3] = [
+const SETS: [Set; 4] = [
     ("mix", ORIGINAL, mix),
     ("layers", ORIGINAL, layers),
+    ("hashes", ORIGINAL, hash_sets::hashes),
     (
         "refusals",
         "document 01, since the original does not refuse",
@@ -91,7 +98,7 @@ fn main() {
         return;
     }
     let Some((name, from, lines)) = SETS.iter().find(|(name, _, _)| *name == wanted) else {
-        eprintln!("usage: oracle mix | layers | refusals | expected");
+        eprintln!("usage: oracle mix | layers | hashes | refusals | expected");
         std::process::exit(2);
     };
     println!("# {name}: made by oracle/make. Answers of {from}.");

@@ -1,9 +1,19 @@
 // The library for programs in C and Rust: functions on numbers, with the promises of what they call.
+mod digests;
+
 ghost use mathlib.Core.Path.{_≡_};
 ghost use Rattle.words.specs.Words.{wrappingMul, rotateRight, mix};
 ghost use Rattle.layers.specs.Calls.{layerApply};
 ghost use Rattle.layers.specs.KeyedLayers.{applied};
-ghost use Rattle.exports.specs.Coded.{coded, xors, layerXors};
+ghost use Rattle.hashes.specs.Hashes.{feed};
+ghost use Rattle.hashes.specs.Calls.{told, prevCall, nextCall};
+ghost use Rattle.exports.specs.Coded.{coded, xors, layerXors, codedHash, codedDigest, fallingDigest, risingDigest};
+use hashes::ConsistentHashIterator;
+use hashes::ConsistentHashRevIterator;
+use hashes::ConsistentHasher;
+use hashes::Falling;
+use hashes::Found;
+use hashes::Rising;
 use layers::Applied;
 use layers::Keyed;
 use layers::KeyedLayer;
@@ -60,5 +70,66 @@ pub extern "C" fn perillajamb_layer_xors(layer: u32, key: u64, n: u32) -> u64
     match KeyedLayer::new(layer, key) {
         Keyed::Made(f) => xor_outputs(f, n),
         Keyed::Refused(c) => 0x1_0000_0000 + (c as u64),
+    }
+}
+
+#[no_mangle]
+pub extern "C" fn perillajamb_seq_builder(state: u64, i: u64) -> u64
+    ensures { λ r. ⌜ r ≡ feed state i ⌝ }
+{
+    hashes::seq_builder(state, i)
+}
+
+// What was found, as one number.
+fn coded_found(found: Found) -> u64
+    ensures { λ r. ⌜ r ≡ codedHash (told found) ⌝ }
+{
+    match found {
+        Found::Hash(x) => x,
+        Found::Nothing => 0x8000_0000_0000_0000,
+        Found::Refused(c) => 0x8000_0000_0000_0000 + (c as u64),
+    }
+}
+
+#[no_mangle]
+pub extern "C" fn perillajamb_prev(state: u64, n: u64) -> u64
+    ensures { λ r. ⌜ r ≡ codedHash (prevCall state n) ⌝ }
+{
+    coded_found(ConsistentHasher::new(state).prev(n))
+}
+
+#[no_mangle]
+pub extern "C" fn perillajamb_into_prev(state: u64, n: u64) -> u64
+    ensures { λ r. ⌜ r ≡ codedHash (prevCall state n) ⌝ }
+{
+    coded_found(ConsistentHasher::new(state).into_prev(n))
+}
+
+#[no_mangle]
+pub extern "C" fn perillajamb_next(state: u64, n: u64) -> u64
+    ensures { λ r. ⌜ r ≡ codedHash (nextCall state n) ⌝ }
+{
+    coded_found(ConsistentHasher::new(state).next(n))
+}
+
+// Every hash of the falling walk from n, as one number.
+#[no_mangle]
+pub extern "C" fn perillajamb_falling_digest(state: u64, n: u64) -> u64
+    ensures { λ r. ⌜ r ≡ codedDigest (fallingDigest state n) ⌝ }
+{
+    match ConsistentHashRevIterator::new(n, state) {
+        Falling::Made(walk) => digests::falling_fed(walk) % 0x8000_0000_0000_0000,
+        Falling::Refused(c) => 0x8000_0000_0000_0000 + (c as u64),
+    }
+}
+
+// Every hash of the rising walk from n, as one number.
+#[no_mangle]
+pub extern "C" fn perillajamb_rising_digest(state: u64, n: u64) -> u64
+    ensures { λ r. ⌜ r ≡ codedDigest (risingDigest state n) ⌝ }
+{
+    match ConsistentHashIterator::new(n, state) {
+        Rising::Made(walk) => digests::rising_fed(walk) % 0x8000_0000_0000_0000,
+        Rising::Refused(c) => 0x8000_0000_0000_0000 + (c as u64),
     }
 }

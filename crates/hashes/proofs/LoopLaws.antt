@@ -2,8 +2,8 @@
 -- Assumes nothing.
 use mathlib.Core.Path.{_≡_, refl, sym, ap, _∙_}
 use mathlib.Core.Bool.{cond}
-use mathlib.Core.List.{List, [], _∷_}
-use Prim.Native.Nat.{ℕ, zero, suc, _+_, _-_, _*_, _%_, _^_, _≤_, _<_, min}
+use mathlib.Core.List.{[], _∷_}
+use Prim.Native.Nat.{ℕ, zero, suc, _+_, _-_, _*_, _%_, _^_, _≤_, _<_, max, min}
 use native.Mathlib.Omega.{arith}
 use native.Mathlib.Nat.{mod-lt}
 use native.Mathlib.Numerals.{add-one}
@@ -88,8 +88,17 @@ module _ (n j low : ℕ) (small : 2 ^ j < n) where
 
 -- ---- upwards
 
-pub least-stop : (m x y : ℕ) (xs ys : List ℕ) → xs ≡ y ∷ ys → y < m → leastOf m x xs ≡ x
-least-stop m x y xs ys e h = rw (e, below-yes y m h)
+module _ (m j x : ℕ) where
+  pub least-over : (left d : ℕ) → left ≤ 0 → leastOf m x (laterNumbers (2 ^ j) (draws left d)) ≡ x
+  least-over left d h = rw (later-over left j d h)
 
-pub least-on : (m x y : ℕ) (xs ys : List ℕ) → xs ≡ y ∷ ys → m ≤ y → leastOf m x xs ≡ leastOf m (min x y) ys
-least-on m x y xs ys e h = rw (e, below-no y m h)
+  -- a number that ends the bucket or is below m
+  pub least-stops : (left d y : ℕ) → 0 < left → y ≡ draw d % 2 ^ (j + 1) → y < max (2 ^ j) m → leastOf m x (laterNumbers (2 ^ j) (draws left d)) ≡ x
+  least-stops left d y h e l =
+      by-below y (2 ^ j)
+      (λ p. rw (later-ends left j d y h e p))
+      (λ p. rw (later-more left j d y h e p, below-yes y m (omega arith)))
+
+  pub least-passes : (left d y : ℕ) → 0 < left → y ≡ draw d % 2 ^ (j + 1) → max (2 ^ j) m ≤ y
+      → leastOf m x (laterNumbers (2 ^ j) (draws left d)) ≡ leastOf m (min x y) (laterNumbers (2 ^ j) (draws (left - 1) (draw d)))
+  least-passes left d y h e l = rw (later-more left j d y h e (omega arith), below-no y m (omega arith))

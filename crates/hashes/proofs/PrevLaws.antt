@@ -3,9 +3,8 @@
 use mathlib.Core.Path.{_≡_, refl, sym, ap, _∙_}
 use mathlib.Core.Bool.{true, false}
 use mathlib.Core.List.{List, [], append-nil}
-use mathlib.Core.Logic.{_⊎_, inl, inr}
 use mathlib.Core.Option.{Option, none, some, Option·getD}
-use Prim.Native.Nat.{ℕ, suc, _+_, _-_, _*_, _/_, _%_, _^_, _≤_, _<_, max, min}
+use Prim.Native.Nat.{ℕ, suc, _+_, _-_, _*_, _/_, _%_, _^_, _≤_, _<_, max}
 use native.Mathlib.Omega.{arith}
 use native.Mathlib.Decide.{le-ind}
 use native.Mathlib.Nat.{mod-lt}
@@ -14,14 +13,18 @@ use lib.Count.{leadingZeros}
 use lib.Pow.{pow-pos, pow-mono}
 use Rattle.lists.specs.Lists.{keep, below, join, largest}
 use Rattle.lists.proofs.Tests.{below-yes, below-no, by-below}
-use Rattle.lists.proofs.Members.{keep-within, keep-none, keep-append}
+use Rattle.lists.proofs.Members.{keep-within, keep-agree, keep-none, keep-append}
 use Rattle.lists.proofs.Extremes.{by-max, orElse, pick-second}
-use Rattle.lists.proofs.Places.{ones-shr, mod-min, bit-set, bit-clear, bits-same, less-pow, highest-place}
+use Rattle.lists.proofs.Places.{ones-shr, bit-set, bit-clear, bits-same, less-pow, highest-place}
 use Rattle.hashes.specs.Hashes.{feed, draw, isSet, bucket, buckets, hashes, prev}
 use Rattle.hashes.specs.Calls.{prevNumber}
 use Rattle.hashes.specs.InnerSearch.{numbersOf, firstBelow, firstLater, bucketsBelow, under}
 use Rattle.hashes.proofs.BucketLaws.{largest-hash}
 use Rattle.hashes.proofs.StateLaws.{numbers-open, set-yes, set-no, bucket-set, bucket-clear, bucket-within, buckets-within}
+
+under-same : (s m n : ℕ) → keep (below m) (buckets s 63) ≡ keep (below n) (buckets s 63) → under s m 63 ≡ under s n 63
+unfolding under
+under-same s m n e = rw e
 
 -- ---- one bucket more
 
@@ -126,45 +129,41 @@ prev-is s n h = prev-some s n h ∙ ap some (sym (number-under s n))
 pub prev-small : (s n : ℕ) → n ≤ 1 → prevNumber s n ≡ 0
 prev-small s n h = number-under s n ∙ under-near s n 0 63 (omega arith) (omega arith) ∙ under-none s n
 
--- ---- of the 63 buckets only those below n count
+-- ---- of the 63 buckets only those below n count, for n up to 2^63
 
 pub record Width (n : ℕ) : Type 0 where
   pub few : bucketsBelow n ≤ 63
   pub small : 2 ^ bucketsBelow n < 2 * n
-  pub enough : (n ≤ 2 ^ bucketsBelow n) ⊎ (bucketsBelow n ≡ 63)
+  pub enough : n ≤ 2 ^ bucketsBelow n
 
-pub width : (n : ℕ) → 1 < n → n ≤ 2 ^ 64 → Width n
+pub width : (n : ℕ) → 1 < n → n ≤ 2 ^ 63 → Width n
 unfolding bucketsBelow
 width n h l =
     let z = leadingZeros 64 (n - 1) in
     let t = highest-place 64 (n - 1) (omega arith) (omega arith) in
-    by-below 0 z
-    (λ p.
-    let e : min 63 (64 - z) ≡ suc (64 - 1 - z) = omega (arith, t .0) in
-    record { few = omega arith; small = rw e (omega (arith, t .1)); enough = rw e (inl (omega (arith, t .2))) })
-    (λ p.
-    let e : min 63 (64 - z) ≡ 63 = omega (arith, t .0) in
-    let j : 64 - 1 - z ≡ 63 = omega arith in
-    let top : 2 ^ 63 ≤ n - 1 = rw j at (t .1) in
-    record { few = omega arith; small = rw e (omega arith); enough = inr e })
+    let low : 64 - 1 - z < 63 = less-pow (64 - 1 - z) 63 (omega (arith, t .1)) in
+    let e : 64 - z ≡ suc (64 - 1 - z) = omega (arith, t .0) in
+    record { few = omega arith; small = rw e (omega (arith, t .1)); enough = rw e (omega (arith, t .2)) }
 
-pub prev-width : (s n : ℕ) → 1 < n → n ≤ 2 ^ 64 → prevNumber s n ≡ under s n (bucketsBelow n)
-prev-width s n h l = go (width n h l .enough)
-  where
-    go : (n ≤ 2 ^ bucketsBelow n) ⊎ (bucketsBelow n ≡ 63) → prevNumber s n ≡ under s n (bucketsBelow n)
-    go (inl p) = number-under s n ∙ under-near s n (bucketsBelow n) 63 (width n h l .few) p
-    go (inr e) = number-under s n ∙ rw e
+pub prev-width : (s n : ℕ) → 1 < n → n ≤ 2 ^ 63 → prevNumber s n ≡ under s n (bucketsBelow n)
+prev-width s n h l = let w = width n h l in number-under s n ∙ under-near s n (bucketsBelow n) 63 (w .few) (w .enough)
 
 -- the state's bits of those buckets, by a mask
-pub width-masked : (s n : ℕ) → leadingZeros 64 (n - 1) ≤ 64 → bitAnd (s % 2 ^ 63) ((2 ^ 64 - 1) / 2 ^ leadingZeros 64 (n - 1)) ≡ s % 2 ^ bucketsBelow n
+pub width-masked : (s n : ℕ) → leadingZeros 64 (n - 1) ≤ 64 → bitAnd s ((2 ^ 64 - 1) / 2 ^ leadingZeros 64 (n - 1)) ≡ s % 2 ^ bucketsBelow n
 unfolding bucketsBelow
-width-masked s n l =
-    rw (ones-shr 64 (leadingZeros 64 (n - 1)) l) (and-mask (s % 2 ^ 63) (64 - leadingZeros 64 (n - 1)) ∙ mod-min s 63 (64 - leadingZeros 64 (n - 1)))
+width-masked s n l = rw (ones-shr 64 (leadingZeros 64 (n - 1)) l) (and-mask s (64 - leadingZeros 64 (n - 1)))
 
 -- the highest of them lies below n
-pub high-less : (s n j : ℕ) → 1 < n → n ≤ 2 ^ 64 → 2 ^ j ≤ s % 2 ^ bucketsBelow n → s % 2 ^ bucketsBelow n < 2 ^ suc j → (j < 63) × (2 ^ j < n)
+pub high-less : (s n j : ℕ) → 1 < n → n ≤ 2 ^ 63 → 2 ^ j ≤ s % 2 ^ bucketsBelow n → s % 2 ^ bucketsBelow n < 2 ^ suc j → (j < 63) × (2 ^ j < n)
 high-less s n j h l lo hi =
     let w = width n h l in
     let p : j < bucketsBelow n = place-less s n (bucketsBelow n) j lo hi in
     let m : 2 ^ suc j ≤ 2 ^ bucketsBelow n = pow-mono p in
     (omega (arith, w .few), omega (arith, w .small))
+
+-- every hash is below 2^63
+pub prev-far : (s n : ℕ) → 2 ^ 63 ≤ n → prevNumber s n ≡ prevNumber s (2 ^ 63)
+prev-far s n h =
+    let same : keep (below n) (buckets s 63) ≡ keep (below (2 ^ 63)) (buckets s 63) = keep-agree (below n) (below (2 ^ 63)) (buckets s 63)
+    (λ z p. let w = (buckets-within s 63 z p) .1 in below-yes z n (omega arith) ∙ sym (below-yes z (2 ^ 63) w)) in
+    number-under s n ∙ under-same s n (2 ^ 63) same ∙ sym (number-under s (2 ^ 63))

@@ -31,9 +31,9 @@ abbrev pub leastFrom : ℕ → List ℕ → Option ℕ
 leastFrom m [] = none
 leastFrom m (x ∷ xs) = cond (below m x) none (some (leastOf m x xs))
 
--- how many of the buckets 2^0, .., 2^62 are below n, for n above 1
+-- how many of the buckets 2^0, .., 2^62 are below n, for n from 2 to 2^63
 unfoldable pub bucketsBelow : ℕ → ℕ
-bucketsBelow n = min 63 (64 - leadingZeros 64 (n - 1))
+bucketsBelow n = 64 - leadingZeros 64 (n - 1)
 
 -- the largest hash below n in the first k buckets, 0 where none is
 unfoldable pub under : ℕ → ℕ → ℕ → ℕ

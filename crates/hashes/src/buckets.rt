@@ -2,7 +2,7 @@
 ghost use mathlib.Core.Path.{_≡_};
 ghost use mathlib.Core.Bool.{cond};
 ghost use mathlib.Core.Option.{Option·getD};
-ghost use Prim.Native.Nat.{_+_, _%_, _^_, _<_, min};
+ghost use Prim.Native.Nat.{_+_, _%_, _^_, _<_, max, min};
 ghost use Rattle.hashes.specs.Hashes.{feed, draw, draws, laterNumbers};
 ghost use Rattle.hashes.specs.InnerSearch.{firstLater, leastOf, leastFrom, numbersOf};
 ghost use Rattle.lists.specs.Lists.{below};
@@ -91,6 +91,15 @@ pub(crate) fn later_below(d0: u64, j: u32, n: u64, low: u64) -> u64
     more_below(d, j, n, low, 253)
 }
 
+fn larger(x: u64, y: u64) -> u64
+    ensures { λ r. ⌜ r ≡ max x y ⌝ }
+{
+    if x < y {
+        return y;
+    }
+    x
+}
+
 fn lesser(x: u64, y: u64) -> u64
     ensures { λ r. ⌜ r ≡ min x y ⌝ }
 {
@@ -100,22 +109,20 @@ fn lesser(x: u64, y: u64) -> u64
     x
 }
 
-// The least of x and the numbers that the draws of bucket 2^j after d0, its first, give before the first below m.
+// The least of x and the numbers that the draws of bucket 2^j after d0, its first, give before the first below m. One test a
+// draw: whether it ends the bucket or is below m, what came before is the answer.
 fn least_from(d0: u64, j: u32, m: u64, x: u64) -> u64
     requires { ⌜ j < 63 ⌝ }
     ensures { λ r. ⌜ r ≡ leastOf m x (laterNumbers (2 ^ j) (draws 255 d0)) ⌝ }
 {
-    let b = bits::power(j);
+    let stop = larger(bits::power(j), m);
     let mut d = d0;
     let mut least = x;
     let mut left: u32 = 255;
     while 0 < left {
         d = drawn(d);
         let y = bits::remainder(d, j + 1);
-        if y < b {
-            return least;
-        }
-        if y < m {
+        if y < stop {
             return least;
         }
         least = lesser(least, y);

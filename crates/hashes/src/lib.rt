@@ -28,6 +28,9 @@ pub fn seq_builder(state: u64, i: u64) -> u64
 pub fn prev_number(state: u64, n: u64) -> u64
     ensures { λ r. ⌜ r ≡ prevNumber state n ⌝ }
 {
+    if search::NONE < n {
+        return search::largest_below(state, search::NONE);
+    }
     search::largest_below(state, n)
 }
 

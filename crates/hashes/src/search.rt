@@ -13,7 +13,7 @@ fn bits_below(state: u64, n: u64) -> u64
     requires { ⌜ 1 < n ⌝ }
     ensures { λ r. ⌜ r ≡ state % 2 ^ bucketsBelow n ⌝ }
 {
-    (state % 0x8000_0000_0000_0000) & (u64::MAX >> u64::leading_zeros(n - 1))
+    state & (u64::MAX >> u64::leading_zeros(n - 1))
 }
 
 // The largest hash in the buckets below 2^k, where those are all below n: the first number of the highest of them that is
@@ -32,7 +32,8 @@ fn highest_under(state: u64, k: u32, n: u64) -> u64
 
 // The largest hash below n; 0 for n = 0. Only the highest bucket below n can hold no hash below n, since each lower one
 // lies below n whole. So there are at most 256 draws in the one, and one in the other.
-pub fn largest_below(state: u64, n: u64) -> u64
+pub(crate) fn largest_below(state: u64, n: u64) -> u64
+    requires { ⌜ n ≤ 2 ^ 63 ⌝ }
     ensures { λ r. ⌜ r ≡ prevNumber state n ⌝ }
 {
     if n <= 1 {

@@ -2,8 +2,8 @@
 -- Assumes nothing.
 use mathlib.Core.Path.{_≡_, refl, sym, ap, _∙_}
 use mathlib.Core.Logic.{_⊎_, inl, inr}
-use Prim.Native.Nat.{ℕ, zero, suc, _+_, _-_, _*_, _/_, _%_, _^_, _≤_, _<_, min}
-use native.Mathlib.Nat.{mod-lt, mod-eq-of-lt, zero-div, min-eq-left, min-eq-right}
+use Prim.Native.Nat.{ℕ, zero, suc, _+_, _-_, _*_, _/_, _%_, _^_, _≤_, _<_}
+use native.Mathlib.Nat.{mod-lt, mod-eq-of-lt, zero-div}
 use native.Mathlib.Omega.{arith}
 use lib.Count.{leadingZeros, trailingZeros, leading-top, under}
 use lib.Pow.{pow-pos, pow-mono, mod-pow-add, mod-mod-pow, shr-shr, field, high, ones-lt, ones-split}
@@ -23,13 +23,6 @@ pub ones-shr : (w z : ℕ) → z ≤ w → (2 ^ w - 1) / 2 ^ z ≡ 2 ^ (w - z) -
 ones-shr w z h =
     let q : (w - z) + z ≡ w = omega arith in
     ap (λ (y : ℕ). y / 2 ^ z) (rw q at (ones-split (w - z) z)) ∙ high (2 ^ (w - z) - 1) z (ones-lt z)
-
--- of a bits' remainder the remainder by b bits
-pub mod-min : (x a b : ℕ) → x % 2 ^ a % 2 ^ b ≡ x % 2 ^ min a b
-mod-min x a b =
-    by-below b a
-    (λ h. let q : (a - b) + b ≡ a = omega arith in rw (min-eq-right {n = b} {m = a} (omega arith)) (rw q at (mod-mod-pow x (a - b) b)))
-    (λ h. let m : 2 ^ a ≤ 2 ^ b = pow-mono h in rw (min-eq-left {n = a} {m = b} h) (mod-eq-of-lt (omega (arith, mod-lt x {m = 2 ^ a} (pow-pos a)))))
 
 -- ---- the low bits of s, by one bit more
 

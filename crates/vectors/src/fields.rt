@@ -63,6 +63,12 @@ impl Fields {
         match letter {
             b'm' => words::splitmix64(v[1]) == v[2],
             b'l' => exports::perillajamb_layer_apply(word(v[1]), v[2], word(v[3])) == v[4],
+            b's' => exports::perillajamb_seq_builder(v[1], v[2]) == v[3],
+            b'p' => exports::perillajamb_prev(v[1], v[2]) == v[3],
+            b'i' => exports::perillajamb_into_prev(v[1], v[2]) == v[3],
+            b'n' => exports::perillajamb_next(v[1], v[2]) == v[3],
+            b'f' => exports::perillajamb_falling_digest(v[1], v[2]) == v[3],
+            b'r' => exports::perillajamb_rising_digest(v[1], v[2]) == v[3],
             _ => false,
         }
     }

@@ -107,5 +107,6 @@ fn replay_file(path: &[u8], name: &[u8]) {
 fn main() {
     replay_file(b"mix.txt", b"mix: ");
     replay_file(b"layers.txt", b"layers: ");
+    replay_file(b"hashes.txt", b"hashes: ");
     replay_file(b"refusals.txt", b"refusals: ");
 }
