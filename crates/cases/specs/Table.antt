@@ -1,9 +1,12 @@
 -- Document 01, "Cases for the table of proofs", row by row in its order.
 -- Assumes nothing.
 use mathlib.Core.Path.{_≡_}
+use mathlib.Core.List.{[], _∷_}
+use mathlib.Core.Option.{none, some}
 use Prim.Native.Nat.{ℕ}
 use Rattle.layers.specs.declared.feistel.Halves.{Halves}
 use Rattle.layers.specs.Layer.{round}
+use Rattle.hashes.specs.Hashes.{bucketHashes, prev}
 
 -- "rounds with h = 4, l = 5"
 abbrev pub halves : ℕ → ℕ → Halves
@@ -17,3 +20,8 @@ pub record Table : Type 0 where
   -- "key FFFFFFFDFFFFFFFF, r = 1 gives 1, 4"
   pub round-key-f-l : round 4 (halves 0xFFFF_FFFD_FFFF_FFFF 1) .l ≡ 1
   pub round-key-f-r : round 4 (halves 0xFFFF_FFFD_FFFF_FFFF 1) .r ≡ 4
+  -- "Prev of 0 none, of 1: 0", of every state
+  pub prev-of-0 : (s : ℕ) → prev s 0 ≡ none
+  pub prev-of-1 : (s : ℕ) → prev s 1 ≡ some 0
+  -- "Bucket 4, draws 2, 7, 5, 1: hashes 6, 5."
+  pub bucket-4 : bucketHashes 4 (2 ∷ 7 ∷ 5 ∷ 1 ∷ []) ≡ 6 ∷ 5 ∷ []

@@ -1,5 +1,6 @@
 pub mod BucketLaws
 pub mod StateLaws
+pub mod DrawLimit
 pub mod LoopLaws
 pub mod PrevLaws
 pub mod NextLaws
