@@ -1,6 +1,6 @@
 //! Trials of hashes.
 
-use oracle::Draws;
+use oracle::{ConsistentHashIterator, ConsistentHashRevIterator, Draws, StandIn};
 use proved::Refused;
 
 use crate::{differ, word};
@@ -71,6 +71,51 @@ pub fn next(draws: &mut Draws) -> Option<String> {
     tried(draws, proved::next, oracle::next)
 }
 
+/// Follows a walk to its end and one call more. `at` is the walk's number before a step, `after` gives it by the hash.
+fn stepped(
+    input: String,
+    mut at: u64,
+    step: impl Fn(u64) -> Result<Option<u64>, Refused>,
+    after: fn(u64) -> u64,
+    mut theirs: impl Iterator<Item = usize>,
+) -> Option<String> {
+    let mut ends = 0;
+    while ends < 2 {
+        let hash = theirs.next().map(|x| x as u64);
+        let difference = differ(format!("{input}, at {at:#x}"), step(at), Ok(hash));
+        if difference.is_some() {
+            return difference;
+        }
+        match hash {
+            Some(x) => at = after(x),
+            None => ends += 1,
+        }
+    }
+    None
+}
+
+pub fn falling_steps(draws: &mut Draws) -> Option<String> {
+    let (state, n) = input(draws);
+    stepped(
+        format!("state {state:#x} n {n:#x}"),
+        n,
+        |n| proved::falling_next(state, n),
+        |x| x,
+        ConsistentHashRevIterator::new(n as usize, StandIn(state)),
+    )
+}
+
+pub fn rising_steps(draws: &mut Draws) -> Option<String> {
+    let (state, n) = input(draws);
+    stepped(
+        format!("state {state:#x} n {n:#x}"),
+        proved::rising_low(n).unwrap(),
+        |low| proved::rising_next(state, low),
+        |x| x + 1,
+        ConsistentHashIterator::new(n as usize, StandIn(state)),
+    )
+}
+
 pub fn falling_digest(draws: &mut Draws) -> Option<String> {
     tried(draws, proved::falling_digest, oracle::falling_digest)
 }
@@ -79,7 +124,7 @@ pub fn rising_digest(draws: &mut Draws) -> Option<String> {
     tried(draws, proved::rising_digest, oracle::rising_digest)
 }
 
-/// All five calls with an n above the limit: by document 01, since the original answers there too.
+/// All calls that refuse, with an n above the limit: by document 01, since the original answers there too.
 pub fn refusals(draws: &mut Draws) -> Option<String> {
     let state = state(draws);
     let n = word(draws).max(LIMIT + 1 + draws.below(2));
@@ -87,12 +132,14 @@ pub fn refusals(draws: &mut Draws) -> Option<String> {
         proved::prev(state, n).err(),
         proved::into_prev(state, n).err(),
         proved::next(state, n).err(),
+        proved::falling_next(state, n).err(),
+        proved::rising_low(n).err(),
         proved::falling_digest(state, n).err(),
         proved::rising_digest(state, n).err(),
     ];
     differ(
         format!("state {state:#x} n {n:#x}"),
         ours,
-        [Some(Refused(1)); 5],
+        [Some(Refused(1)); 7],
     )
 }

@@ -11,7 +11,7 @@ use oracle::Draws;
 type Trial = fn(&mut Draws) -> Option<String>;
 
 /// A call, how many of 100 inputs go to it, and the trial.
-const CALLS: [(&str, u64, Trial); 13] = [
+const CALLS: [(&str, u64, Trial); 15] = [
     ("wrapping_mul", 4, words::wrapping_mul),
     ("rotate_right", 4, words::rotate_right),
     ("splitmix64", 4, words::splitmix64),
@@ -22,8 +22,10 @@ const CALLS: [(&str, u64, Trial); 13] = [
     ("prev", 20, hashes::prev),
     ("into_prev", 5, hashes::into_prev),
     ("next", 20, hashes::next),
-    ("falling walk, digested", 5, hashes::falling_digest),
-    ("rising walk, digested", 5, hashes::rising_digest),
+    ("falling walk, step by step", 2, hashes::falling_steps),
+    ("rising walk, step by step", 2, hashes::rising_steps),
+    ("falling walk, digested", 3, hashes::falling_digest),
+    ("rising walk, digested", 3, hashes::rising_digest),
     ("hashes, refusals", 5, hashes::refusals),
 ];
 
@@ -35,9 +37,10 @@ fn main() {
             std::process::exit(2);
         }),
     };
-    for (name, share, trial) in CALLS {
+    for (place, (name, share, trial)) in CALLS.into_iter().enumerate() {
         let count = millions * 10_000 * share;
-        let mut draws = Draws(count);
+        // Other numbers for each call and for each length of run.
+        let mut draws = Draws(((place as u64) << 48) + count);
         for turn in 0..count {
             if let Some(difference) = trial(&mut draws) {
                 println!("{name}: input {turn} differs: {difference}");

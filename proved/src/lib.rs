@@ -10,6 +10,9 @@ extern "C" {
     fn perillajamb_prev(state: u64, n: u64) -> u64;
     fn perillajamb_into_prev(state: u64, n: u64) -> u64;
     fn perillajamb_next(state: u64, n: u64) -> u64;
+    fn perillajamb_falling_next(state: u64, n: u64) -> u64;
+    fn perillajamb_rising_low(n: u64) -> u64;
+    fn perillajamb_rising_next(state: u64, low: u64) -> u64;
     fn perillajamb_falling_digest(state: u64, n: u64) -> u64;
     fn perillajamb_rising_digest(state: u64, n: u64) -> u64;
 }
@@ -40,9 +43,9 @@ fn decoded_hash(answer: u64) -> Result<Option<u64>, Refused> {
     }
 }
 
-/// A digest comes as a hash does; there always is one.
-fn decoded_digest(answer: u64) -> Result<u64, Refused> {
-    decoded_hash(answer).map(|digest| digest.expect("a digest, not none"))
+/// A number below 2^63 comes as a hash does, but is never none.
+fn decoded_number(answer: u64) -> Result<u64, Refused> {
+    decoded_hash(answer).map(|number| number.expect("a number, not none"))
 }
 
 pub fn wrapping_mul(a: u64, b: u64) -> u64 {
@@ -85,12 +88,27 @@ pub fn next(state: u64, n: u64) -> Result<Option<u64>, Refused> {
     decoded_hash(unsafe { perillajamb_next(state, n) })
 }
 
+/// A step of the falling walk whose n is given; after a hash that is its n.
+pub fn falling_next(state: u64, n: u64) -> Result<Option<u64>, Refused> {
+    decoded_hash(unsafe { perillajamb_falling_next(state, n) })
+}
+
+/// Where the rising walk from n starts.
+pub fn rising_low(n: u64) -> Result<u64, Refused> {
+    decoded_number(unsafe { perillajamb_rising_low(n) })
+}
+
+/// A step of the rising walk whose `low` is given; after a hash that is one above it.
+pub fn rising_next(state: u64, low: u64) -> Result<Option<u64>, Refused> {
+    decoded_hash(unsafe { perillajamb_rising_next(state, low) })
+}
+
 /// The walk from n down, digested as the oracle does it.
 pub fn falling_digest(state: u64, n: u64) -> Result<u64, Refused> {
-    decoded_digest(unsafe { perillajamb_falling_digest(state, n) })
+    decoded_number(unsafe { perillajamb_falling_digest(state, n) })
 }
 
 /// The walk from n up, likewise.
 pub fn rising_digest(state: u64, n: u64) -> Result<u64, Refused> {
-    decoded_digest(unsafe { perillajamb_rising_digest(state, n) })
+    decoded_number(unsafe { perillajamb_rising_digest(state, n) })
 }

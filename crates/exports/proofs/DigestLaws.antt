@@ -11,7 +11,7 @@ use Rattle.hashes.specs.Calls.{limited}
 use Rattle.hashes.specs.Walks.{Step}
 use Rattle.hashes.proofs.WalkLaws.{Turn, ended, gave}
 use Rattle.hashes.proofs.CallLaws.{limited-in, limited-out, limited-says, limited-refuses}
-use Rattle.exports.specs.Coded.{fedAll, digest, codedDigest}
+use Rattle.exports.specs.Coded.{fedAll, digest, codedNumber}
 use Rattle.exports.specs.InnerDigests.{fedWith, saysHash}
 
 module _ {W : Type 0} {step : W → Step W} {rest : W → List ℕ} {good : W → Type 0} (turn : (w : W) → good w → Turn step rest good w) where
@@ -53,13 +53,13 @@ module _ {W : Type 0} {step : W → Step W} {rest : W → List ℕ} {good : W �
 -- ---- the answer of a call that makes a walk and feeds it, over any walk: xs n is what it gives
 
 module _ {W : Type 0} (n : ℕ) (start : W) (rest : W → List ℕ) where
-  pub digest-made : (w : W) (r : ℕ) → limited n start ≡ says w → r ≡ fedAll 0 (rest w) → r % 2 ^ 63 ≡ codedDigest (limited n (digest (rest start)))
+  pub digest-made : (w : W) (r : ℕ) → limited n start ≡ says w → r ≡ fedAll 0 (rest w) → r % 2 ^ 63 ≡ codedNumber (limited n (digest (rest start)))
   unfolding digest
   digest-made w r e q =
       let s = limited-says n start w e in
       rw (limited-in n (fedAll 0 (rest start) % 2 ^ 63) (s .0), q, s .1)
 
-  pub digest-refused : (c : ℕ) → limited n start ≡ refusal c → 2 ^ 63 + c ≡ codedDigest (limited n (digest (rest start)))
+  pub digest-refused : (c : ℕ) → limited n start ≡ refusal c → 2 ^ 63 + c ≡ codedNumber (limited n (digest (rest start)))
   digest-refused c e =
       let s = limited-refuses n c start e in
       rw (limited-out n (digest (rest start)) (s .0), s .1)

@@ -34,6 +34,11 @@ abbrev pub codedHash : Told (Option ℕ) → ℕ
 codedHash (says o) = Option·getD o (2 ^ 63)
 codedHash (refusal c) = 2 ^ 63 + c
 
+-- a number below 2^63 as it is, refusal c as 2^63 + c
+abbrev pub codedNumber : Told ℕ → ℕ
+codedNumber (says y) = y
+codedNumber (refusal c) = 2 ^ 63 + c
+
 -- the stand-in of document 01 fed with all of a list, one after the other
 abbrev pub fedAll : ℕ → List ℕ → ℕ
 fedAll state [] = state
@@ -42,10 +47,6 @@ fedAll state (x ∷ xs) = fedAll (feed state x) xs
 -- a list as one number below 2^63
 unfoldable pub digest : List ℕ → ℕ
 digest xs = fedAll 0 xs % 2 ^ 63
-
-abbrev pub codedDigest : Told ℕ → ℕ
-codedDigest (says y) = y
-codedDigest (refusal c) = 2 ^ 63 + c
 
 -- the whole falling walk from n, and the whole rising walk
 unfoldable pub fallingDigest : ℕ → ℕ → Told ℕ

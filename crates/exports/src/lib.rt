@@ -6,8 +6,10 @@ ghost use Rattle.words.specs.Words.{wrappingMul, rotateRight, mix};
 ghost use Rattle.layers.specs.Calls.{layerApply};
 ghost use Rattle.layers.specs.KeyedLayers.{applied};
 ghost use Rattle.hashes.specs.Hashes.{feed};
-ghost use Rattle.hashes.specs.Calls.{told, prevCall, nextCall};
-ghost use Rattle.exports.specs.Coded.{coded, xors, layerXors, codedHash, codedDigest, fallingDigest, risingDigest};
+ghost use Rattle.hashes.specs.Next.{low};
+ghost use Rattle.hashes.specs.Calls.{told, limited, prevCall, nextCall};
+ghost use Rattle.hashes.specs.Walks.{fall, rise};
+ghost use Rattle.exports.specs.Coded.{coded, xors, layerXors, codedHash, codedNumber, fallingDigest, risingDigest};
 use hashes::ConsistentHashIterator;
 use hashes::ConsistentHashRevIterator;
 use hashes::ConsistentHasher;
@@ -112,10 +114,43 @@ pub extern "C" fn perillajamb_next(state: u64, n: u64) -> u64
     coded_found(ConsistentHasher::new(state).next(n))
 }
 
+// A step of the falling walk: the largest hash below n. After a hash the walk's n is that hash.
+#[no_mangle]
+pub extern "C" fn perillajamb_falling_next(state: u64, n: u64) -> u64
+    ensures { λ r. ⌜ r ≡ codedHash (fall (record { state = state; n = n }) .said) ⌝ }
+{
+    let walk = ConsistentHashRevIterator { state, n };
+    let step = walk.next();
+    let found = step.found;
+    coded_found(found)
+}
+
+// Where the rising walk from n starts: its `low`.
+#[no_mangle]
+pub extern "C" fn perillajamb_rising_low(n: u64) -> u64
+    ensures { λ r. ⌜ r ≡ codedNumber (limited n (low n)) ⌝ }
+{
+    match ConsistentHashIterator::new(n, 0) {
+        Rising::Made(walk) => walk.low,
+        Rising::Refused(c) => 0x8000_0000_0000_0000 + (c as u64),
+    }
+}
+
+// A step of the rising walk: the smallest hash of `low` or more. After a hash the walk's `low` is one above it.
+#[no_mangle]
+pub extern "C" fn perillajamb_rising_next(state: u64, low: u64) -> u64
+    ensures { λ r. ⌜ r ≡ codedHash (rise (record { state = state; low = low }) .said) ⌝ }
+{
+    let walk = ConsistentHashIterator { state, low };
+    let step = walk.next();
+    let found = step.found;
+    coded_found(found)
+}
+
 // Every hash of the falling walk from n, as one number.
 #[no_mangle]
 pub extern "C" fn perillajamb_falling_digest(state: u64, n: u64) -> u64
-    ensures { λ r. ⌜ r ≡ codedDigest (fallingDigest state n) ⌝ }
+    ensures { λ r. ⌜ r ≡ codedNumber (fallingDigest state n) ⌝ }
 {
     match ConsistentHashRevIterator::new(n, state) {
         Falling::Made(walk) => digests::falling_fed(walk) % 0x8000_0000_0000_0000,
@@ -126,7 +161,7 @@ pub extern "C" fn perillajamb_falling_digest(state: u64, n: u64) -> u64
 // Every hash of the rising walk from n, as one number.
 #[no_mangle]
 pub extern "C" fn perillajamb_rising_digest(state: u64, n: u64) -> u64
-    ensures { λ r. ⌜ r ≡ codedDigest (risingDigest state n) ⌝ }
+    ensures { λ r. ⌜ r ≡ codedNumber (risingDigest state n) ⌝ }
 {
     match ConsistentHashIterator::new(n, state) {
         Rising::Made(walk) => digests::rising_fed(walk) % 0x8000_0000_0000_0000,

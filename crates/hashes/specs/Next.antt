@@ -15,7 +15,7 @@ isPower m = has m (map (λ i. 2 ^ i) (from 1 62))
 unfoldable pub low : ℕ → ℕ
 low n = cond (isPower (n + 1)) (n + 1) n
 
--- the smallest hash of m or more
+-- the smallest hash of m or more, which the walk gives from there
 unfoldable pub smallestFrom : ℕ → ℕ → Option ℕ
 smallestFrom s m = smallest (keep (notBelow m) (hashes s))
 

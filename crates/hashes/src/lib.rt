@@ -28,8 +28,8 @@ pub fn seq_builder(state: u64, i: u64) -> u64
 pub fn prev_number(state: u64, n: u64) -> u64
     ensures { λ r. ⌜ r ≡ prevNumber state n ⌝ }
 {
-    if search::NONE < n {
-        return search::largest_below(state, search::NONE);
+    if search::HASH_BOUND < n {
+        return search::largest_below(state, search::HASH_BOUND);
     }
     search::largest_below(state, n)
 }
@@ -77,7 +77,7 @@ impl ConsistentHasher {
             return Found::Refused(1);
         }
         let x = search::smallest_from(self.state, low_of(n));
-        if x == search::NONE {
+        if x == search::HASH_BOUND {
             return Found::Nothing;
         }
         Found::Hash(x)
@@ -199,7 +199,7 @@ impl ConsistentHashIterator {
     {
         let state = self.state;
         let x = search::smallest_from(state, self.low);
-        if x == search::NONE {
+        if x == search::HASH_BOUND {
             return Rose {
                 walk: self,
                 found: Found::Nothing,

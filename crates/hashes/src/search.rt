@@ -8,6 +8,9 @@ ghost use Rattle.hashes.specs.InnerSearch.{bucketsBelow, under, NextSet}
 use crate::bits;
 use crate::buckets;
 
+// 2^63. Every hash is smaller, so that it stands for none where a hash is looked for upwards.
+pub(crate) const HASH_BOUND: u64 = 0x8000_0000_0000_0000;
+
 // Of the bits of the state, those of buckets below n.
 fn bits_below(state: u64, n: u64) -> u64
     requires { ⌜ 1 < n ⌝ }
@@ -62,9 +65,6 @@ fn next_set(state: u64, k: u32) -> u32
     k + bits::lowest((state % 0x8000_0000_0000_0000 + 0x8000_0000_0000_0000) >> k)
 }
 
-// What stands for none where a hash is looked for upwards: every hash is smaller.
-pub(crate) const NONE: u64 = 0x8000_0000_0000_0000;
-
 // The smallest hash of m or more. Of the buckets that are opened only the first can hold none, since each higher one lies
 // above m whole.
 pub(crate) fn smallest_from(state: u64, m: u64) -> u64
@@ -81,5 +81,5 @@ pub(crate) fn smallest_from(state: u64, m: u64) -> u64
         }
         j = next_set(state, j + 1);
     }
-    NONE
+    HASH_BOUND
 }
