@@ -8,3 +8,4 @@ pub mod PlaceLaws
 pub mod CallLaws
 pub mod LargestLaws
 pub mod WalkLaws
+pub mod Examples

@@ -77,7 +77,7 @@ fn more_below(d0: u64, j: u32, n: u64, low: u64, count: u32) -> u64
     low
 }
 
-// The same for all later draws, d0 being the first. Most buckets end with one of the two that come without a loop.
+// The same for all later draws, d0 being the first of 256. Most buckets end with one of the two that come without a loop.
 pub(crate) fn later_below(d0: u64, j: u32, n: u64, low: u64) -> u64
     requires { ⌜ (j < 63) × (2 ^ j < n) ⌝ }
     ensures { λ r. ⌜ r ≡ firstLater n j low 255 d0 ⌝ }
