@@ -119,7 +119,7 @@ pub struct Fell {
 
 impl ConsistentHashRevIterator {
     // The largest n.
-    pub const N_LIMIT: u64 = 0x4000_0000_0000_0000;
+    pub const N_LIMIT: u64 = ConsistentHasher::N_LIMIT;
 
     // The walk from n down; refusal 1 for an n above the limit.
     pub fn new(n: u64, state: u64) -> Falling
@@ -178,7 +178,7 @@ pub struct Rose {
 
 impl ConsistentHashIterator {
     // The largest n.
-    pub const N_LIMIT: u64 = 0x4000_0000_0000_0000;
+    pub const N_LIMIT: u64 = ConsistentHasher::N_LIMIT;
 
     // The walk from n up; refusal 1 for an n above the limit.
     pub fn new(n: u64, state: u64) -> Rising
