@@ -13,7 +13,7 @@ use lib.Count.{leadingZeros}
 use lib.Pow.{pow-pos, pow-mono}
 use Rattle.lists.specs.Lists.{keep, below, join, largest}
 use Rattle.lists.proofs.Tests.{below-yes, below-no, by-below}
-use Rattle.lists.proofs.Members.{keep-within, keep-agree, keep-none, keep-append}
+use Rattle.lists.proofs.Members.{keep-within, keep-none, keep-append}
 use Rattle.lists.proofs.Extremes.{by-max, orElse, pick-second}
 use Rattle.lists.proofs.Places.{ones-shr, bit-set, bit-clear, bits-same, less-pow, highest-place}
 use Rattle.hashes.specs.Hashes.{feed, draw, isSet, bucket, buckets, hashes, prev}
@@ -21,10 +21,6 @@ use Rattle.hashes.specs.Calls.{prevNumber}
 use Rattle.hashes.specs.InnerSearch.{numbersOf, firstBelow, firstLater, bucketsBelow, under}
 use Rattle.hashes.proofs.BucketLaws.{largest-hash}
 use Rattle.hashes.proofs.StateLaws.{numbers-open, set-yes, set-no, bucket-set, bucket-clear, bucket-within, buckets-within}
-
-under-same : (s m n : ℕ) → keep (below m) (buckets s 63) ≡ keep (below n) (buckets s 63) → under s m 63 ≡ under s n 63
-unfolding under
-under-same s m n e = rw e
 
 -- ---- one bucket more
 
@@ -160,10 +156,3 @@ high-less s n j h l lo hi =
     let p : j < bucketsBelow n = place-less s n (bucketsBelow n) j lo hi in
     let m : 2 ^ suc j ≤ 2 ^ bucketsBelow n = pow-mono p in
     (omega (arith, w .few), omega (arith, w .small))
-
--- every hash is below 2^63
-pub prev-far : (s n : ℕ) → 2 ^ 63 ≤ n → prevNumber s n ≡ prevNumber s (2 ^ 63)
-prev-far s n h =
-    let same : keep (below n) (buckets s 63) ≡ keep (below (2 ^ 63)) (buckets s 63) = keep-agree (below n) (below (2 ^ 63)) (buckets s 63)
-    (λ z p. let w = (buckets-within s 63 z p) .1 in below-yes z n (omega arith) ∙ sym (below-yes z (2 ^ 63) w)) in
-    number-under s n ∙ under-same s n (2 ^ 63) same ∙ sym (number-under s (2 ^ 63))

@@ -28,6 +28,6 @@ prevCall s n = limited n (prev s n)
 abbrev pub nextCall : ℕ → ℕ → Told (Option ℕ)
 nextCall s n = limited n (next s n)
 
--- prev as a number, for choosers, who ask only for n above 0: 0 where there is none
+-- prev as a number, for the laws and for choosers, who ask only for n above 0: 0 where there is none
 unfoldable pub prevNumber : ℕ → ℕ → ℕ
 prevNumber s n = Option·getD (prev s n) 0

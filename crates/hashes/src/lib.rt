@@ -7,7 +7,7 @@ ghost use mathlib.Core.Path.{_≡_};
 ghost use Prim.Native.Nat.{_^_, _≤_};
 ghost use Rattle.hashes.specs.Hashes.{feed};
 ghost use Rattle.hashes.specs.Next.{low};
-ghost use Rattle.hashes.specs.Calls.{told, prevCall, nextCall, prevNumber};
+ghost use Rattle.hashes.specs.Calls.{told, prevCall, nextCall};
 ghost use Rattle.hashes.specs.Walks.{toldFalling, fallingFrom, fell, fall, toldRising, risingFrom, rose, rise};
 
 // What a call that looks for a hash answers: the hash, that there is none, or a refusal with its number.
@@ -22,16 +22,6 @@ pub fn seq_builder(state: u64, i: u64) -> u64
     ensures { λ r. ⌜ r ≡ feed state i ⌝ }
 {
     buckets::fed(state, i)
-}
-
-// The largest hash below n as a number, for callers with n above 0, which has one; 0 for n = 0.
-pub fn prev_number(state: u64, n: u64) -> u64
-    ensures { λ r. ⌜ r ≡ prevNumber state n ⌝ }
-{
-    if search::HASH_BOUND < n {
-        return search::largest_below(state, search::HASH_BOUND);
-    }
-    search::largest_below(state, n)
 }
 
 // The hashes of one state.
