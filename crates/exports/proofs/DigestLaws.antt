@@ -8,8 +8,8 @@ use native.Mathlib.Omega.{arith}
 use lib.ListN.{length}
 use Rattle.lists.specs.Told.{says, refusal}
 use Rattle.hashes.specs.Calls.{limited}
-use Rattle.hashes.specs.Walks.{Step}
-use Rattle.hashes.proofs.WalkLaws.{Turn, ended, gave}
+use Rattle.lists.specs.Steps.{Step}
+use Rattle.lists.proofs.Turns.{Turn, ended, gave}
 use Rattle.hashes.proofs.CallLaws.{limited-in, limited-out, limited-says, limited-refuses}
 use Rattle.exports.specs.Coded.{fedAll, digest, codedNumber}
 use Rattle.exports.specs.InnerDigests.{fedWith, saysHash}
@@ -34,7 +34,7 @@ module _ {W : Type 0} {step : W → Step W} {rest : W → List ℕ} {good : W �
   turned d w g = go (turn w g)
     where
       go : Turn step rest good w → Turned d w
-      go (ended said stays empty) = record { stays-good = rw stays g; feeds = rw (said, empty); fewer = rw (said, empty) (omega arith) }
+      go (ended said stays nothing empty) = record { stays-good = stays; feeds = rw (said, empty); fewer = rw (said, empty) (omega arith) }
       go (gave x said more splits) = record { stays-good = more; feeds = rw (said, splits); fewer = rw (said, splits) (omega arith) }
 
   -- the same, of a step t that the code made, the number e and the truth b that it worked out from it

@@ -1,2 +1,5 @@
 pub mod XorLaws
 pub mod DigestLaws
+pub mod CrossLaws
+pub mod OrderCrossLaws
+pub mod RunLaws

@@ -1,6 +1,6 @@
 -- How answers cross to C and Rust, as one number, and what the calls that sum up many answers work out.
 -- Assumes nothing.
-use mathlib.Core.Bool.{cond}
+use mathlib.Core.Bool.{Bool, true, false, cond}
 use mathlib.Core.List.{List, [], _∷_}
 use mathlib.Core.Option.{Option, Option·getD}
 use Prim.Native.Nat.{ℕ, zero, suc, _+_, _%_, _^_}
@@ -17,6 +17,11 @@ use Rattle.hashes.specs.Walks.{hashesBelow, hashesFrom}
 abbrev pub coded : Told ℕ → ℕ
 coded (says y) = y
 coded (refusal c) = 2 ^ 32 + c
+
+-- 1 or 0
+abbrev pub truth : Bool → ℕ
+truth true = 1
+truth false = 0
 
 -- f 0 xor f 1 xor .. xor f (n - 1)
 unfoldable pub xors : (ℕ → ℕ) → ℕ → ℕ

@@ -1,2 +1,5 @@
 pub mod Coded
 pub mod InnerDigests
+pub mod Reservoirs
+pub mod Orders
+pub mod InnerRuns

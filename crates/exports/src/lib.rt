@@ -1,5 +1,8 @@
 // The library for programs in C and Rust: functions on numbers, with the promises of what they call.
 mod digests;
+mod parts;
+pub mod permutations;
+pub mod reservoirs;
 
 ghost use mathlib.Core.Path.{_≡_};
 ghost use Rattle.words.specs.Words.{wrappingMul, rotateRight, mix};

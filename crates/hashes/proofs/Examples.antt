@@ -9,7 +9,8 @@ use Rattle.lists.specs.Lists.{below, notBelow, same, has}
 use Rattle.words.specs.Words.{mix, wrappingMul}
 use Rattle.hashes.specs.Hashes.{feed, draw, draws, laterNumbers, numbers, bucketHashes, bucketDraws, isSet, bucket, buckets, hashes, prev}
 use Rattle.hashes.specs.Next.{isPower, low, smallestFrom, next}
-use Rattle.hashes.specs.Walks.{fall, rise, answers}
+use Rattle.lists.specs.Steps.{answers}
+use Rattle.hashes.specs.Walks.{fall, rise}
 
 -- buckets 2, 8 and 32; bit 2^63 is ignored. Bucket 8 has the numbers 12, 15, 15, 12, 13, of which only the first is a hash.
 abbrev state : ℕ

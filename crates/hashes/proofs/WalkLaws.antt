@@ -7,45 +7,29 @@ use mathlib.Core.Option.{Option, none, some}
 use Prim.Native.Nat.{ℕ, zero, suc, _+_, _-_, _^_, _≤_, _<_}
 use native.Mathlib.Omega.{arith}
 use native.Mathlib.Numerals.{add-one}
-use Rattle.lists.specs.Told.{Told, says}
+use Rattle.lists.specs.Told.{Told}
+use Rattle.lists.specs.Steps.{Step, answers, oneByOne}
 use Rattle.lists.specs.Lists.{keep, notBelow, occ, from}
 use Rattle.lists.proofs.Tests.{not-below-yes, not-below-no, by-test, by-below}
 use Rattle.lists.proofs.Members.{occ-cons, occ-keep-yes, keep-passes, keep-agree, keep-none}
 use Rattle.lists.proofs.Extremes.{by-min, pick-is}
+use Rattle.lists.proofs.Turns.{Turn, ended, gave, all-answers}
 use Rattle.hashes.specs.declared.ConsistentHashRevIterator.{ConsistentHashRevIterator}
 use Rattle.hashes.specs.declared.ConsistentHashIterator.{ConsistentHashIterator}
 use Rattle.hashes.specs.Hashes.{buckets, hashes, isHash, prev}
 use Rattle.hashes.specs.Next.{smallestFrom}
 use Rattle.hashes.specs.Calls.{prevNumber}
-use Rattle.hashes.specs.Walks.{Step, fallen, fall, hashesBelow, risen, rise, hashesFrom, answers, oneByOne}
+use Rattle.hashes.specs.Walks.{fallen, fall, hashesBelow, risen, rise, hashesFrom}
 use Rattle.hashes.proofs.StateLaws.{buckets-within}
 use Rattle.hashes.proofs.PrevLaws.{prev-none, prev-is}
 use Rattle.hashes.proofs.LargestLaws.{hash-occ, no-hash-occ, prev-below, prev-suc-yes, prev-suc-no}
 use Rattle.hashes.proofs.CallLaws.{fall-in}
-
--- ---- any walk
 
 abbrev said-of : {W : Type 0} → Step W → Told (Option ℕ)
 said-of t = t .said
 
 abbrev walk-of : {W : Type 0} → Step W → W
 walk-of t = t .walk
-
--- a step of a walk, of which `rest` says what it is still to give: nothing is left and it stays, or it gives the first
-pub data Turn {W : Type 0} (step : W → Step W) (rest : W → List ℕ) (good : W → Type 0) (w : W) : Type 0 where
-  ended : step w .said ≡ says none → step w .walk ≡ w → rest w ≡ [] → Turn step rest good w
-  gave : (x : ℕ) → step w .said ≡ says (some x) → good (step w .walk) → rest w ≡ x ∷ rest (step w .walk) → Turn step rest good w
-
-module _ {W : Type 0} {step : W → Step W} {rest : W → List ℕ} {good : W → Type 0} (turn : (w : W) → good w → Turn step rest good w) where
-  answer-on : (k : ℕ) (w : W) → good w → ((v : W) → good v → answers step k v ≡ oneByOne k (rest v)) → Turn step rest good w → answers step (suc k) w ≡ oneByOne (suc k) (rest w)
-  unfolding answers oneByOne
-  answer-on k w g ih (ended said stays empty) = rw (said, stays, ih w g, empty)
-  answer-on k w g ih (gave x said more splits) = rw (said, ih (step w .walk) more, splits)
-
-  pub all-answers : (k : ℕ) (w : W) → good w → answers step k w ≡ oneByOne k (rest w)
-  unfolding answers oneByOne
-  all-answers zero w g = refl
-  all-answers (suc k) w g = answer-on k w g (λ v h. all-answers k v h) (turn w g)
 
 -- ---- falling
 
@@ -80,7 +64,9 @@ fall-turn w h = go (prev (w .state) (w .n)) refl
     go : (o : Option ℕ) → prev (w .state) (w .n) ≡ o → Turn fall belowOf Falls w
     go none e =
         let f : fall w ≡ fallen w none = fall-in w h ∙ ap (fallen w) e in
-        ended (ap said-of f) (ap walk-of f) (below-open (w .state) (w .n) ∙ ap (downFrom (w .state)) e)
+        let z : belowOf w ≡ [] = below-open (w .state) (w .n) ∙ ap (downFrom (w .state)) e in
+        let stays : fall w .walk ≡ w = ap walk-of f in
+        ended (ap said-of f) (rw stays h) (ap belowOf stays ∙ z) z
     go (some x) e =
         let f : fall w ≡ fallen w (some x) = fall-in w h ∙ ap (fallen w) e in
         gave x (ap said-of f) (rw f (omega (arith, some-le (w .state) (w .n) x e)))
@@ -149,7 +135,8 @@ rise-turn w h = go (smallestFrom (w .state) (w .low)) refl
     go : (o : Option ℕ) → smallestFrom (w .state) (w .low) ≡ o → Turn rise aboveOf Rises w
     go none e =
         let f : rise w ≡ risen w none = ap (risen w) e in
-        ended (ap said-of f) (ap walk-of f) (from-open (w .state) (w .low) ∙ ap (upFrom (w .state)) e)
+        let z : aboveOf w ≡ [] = from-open (w .state) (w .low) ∙ ap (upFrom (w .state)) e in
+        ended (ap said-of f) tt (ap (λ (t : Step ConsistentHashIterator). aboveOf (t .walk)) f ∙ z) z
     go (some x) e =
         let f : rise w ≡ risen w (some x) = ap (risen w) e in
         gave x (ap said-of f) tt

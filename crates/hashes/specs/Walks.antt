@@ -1,11 +1,12 @@
 -- The two walks. Document 01: "Both hash walks, one hash a call, then none."
 -- Assumes nothing.
 use mathlib.Core.Bool.{cond}
-use mathlib.Core.List.{List, [], _∷_}
+use mathlib.Core.List.{List}
 use mathlib.Core.Option.{Option, none, some}
-use Prim.Native.Nat.{ℕ, zero, suc, _+_, _-_, _^_}
+use Prim.Native.Nat.{ℕ, _+_, _-_, _^_}
 use lib.Dec.{ltb}
 use Rattle.lists.specs.Told.{Told, refusal, says}
+use Rattle.lists.specs.Steps.{Step}
 use Rattle.lists.specs.Lists.{keep, from, down}
 use Rattle.hashes.specs.declared.ConsistentHashRevIterator.{ConsistentHashRevIterator}
 use Rattle.hashes.specs.declared.ConsistentHashIterator.{ConsistentHashIterator}
@@ -18,11 +19,6 @@ use Rattle.hashes.specs.declared.Rose.{Rose}
 use Rattle.hashes.specs.Hashes.{isHash, prev}
 use Rattle.hashes.specs.Next.{low, smallestFrom}
 use Rattle.hashes.specs.Calls.{told, limited}
-
--- what a call of `next` says, and the walk after it
-pub record Step (W : Type 0) : Type 0 where
-  pub said : Told (Option ℕ)
-  pub walk : W
 
 -- ---- falling
 
@@ -76,16 +72,3 @@ rise w = risen w (smallestFrom (w .state) (w .low))
 -- every hash of s from m up, in rising order, each once. No hash is 2^63 or more.
 unfoldable pub hashesFrom : ℕ → ℕ → List ℕ
 hashesFrom s m = keep (isHash s) (from m (2 ^ 63 - m))
-
--- ---- many calls
-
--- what k calls of `next` say, each on the walk that the one before left
-unfoldable pub answers : {W : Type 0} → (W → Step W) → ℕ → W → List (Told (Option ℕ))
-answers step zero w = []
-answers step (suc k) w = step w .said ∷ answers step k (step w .walk)
-
--- k answers: the numbers of a list, one a call, then none for ever
-unfoldable pub oneByOne : ℕ → List ℕ → List (Told (Option ℕ))
-oneByOne zero xs = []
-oneByOne (suc k) [] = says none ∷ oneByOne k []
-oneByOne (suc k) (x ∷ xs) = says (some x) ∷ oneByOne k xs

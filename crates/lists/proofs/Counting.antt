@@ -1,14 +1,14 @@
 -- Counting: a list of N numbers below N in which no number stands twice has exactly n entries below n, for every n up to N.
 -- Assumes nothing.
-use mathlib.Core.Path.{_≡_, refl, ap, _∙_}
+use mathlib.Core.Path.{_≡_, refl, sym, ap, _∙_}
 use mathlib.Core.List.{List, [], _∷_}
-use Prim.Native.Nat.{ℕ, zero, suc, _+_, _-_, _≤_}
-use native.Mathlib.Nat.{add-suc, add-zero}
+use Prim.Native.Nat.{ℕ, zero, suc, _+_, _-_, _≤_, _<_}
+use native.Mathlib.Nat.{le-refl, add-suc, add-zero}
 use native.Mathlib.Omega.{arith}
 use lib.ListN.{length}
-use Rattle.lists.specs.Lists.{below, occ, countBelow}
-use Rattle.lists.proofs.Tests.{below-yes, below-no, same-yes, same-no, by-three}
-use Rattle.lists.proofs.Keeping.{All, all-keep}
+use Rattle.lists.specs.Lists.{keep, below, occ, countBelow}
+use Rattle.lists.proofs.Tests.{below-yes, below-no, same-yes, same-no, by-test, by-below, by-same, by-three}
+use Rattle.lists.proofs.Keeping.{All, all-keep, all-of-length, keep-keep, below-below}
 
 -- one more number below: as often as it stands there
 pub count-step : (n : ℕ) (xs : List ℕ) → countBelow (suc n) xs ≡ countBelow n xs + occ n xs
@@ -51,3 +51,33 @@ order-of N xs l a d = record { size = l; counts = c }
         let e : n + (N - n) ≡ N = omega arith in
         let u′ : countBelow N xs ≤ countBelow n xs + (N - n) = rw e at u in
         omega (arith, full, count-le xs d n)
+
+-- an entry not below n is not counted
+pub occ-count : (v n : ℕ) → n ≤ v → (xs : List ℕ) → occ v xs + countBelow n xs ≤ length xs
+occ-count v n l [] = omega arith
+occ-count v n l (x ∷ xs) =
+    by-same x v
+    (λ e. rw (same-yes x v e, below-no x n (omega arith)) (omega (arith, occ-count v n l xs)))
+    (λ d. rw (same-no x v d) (by-test (below n x) (λ y. rw y (omega (arith, occ-count v n l xs))) (λ m. rw m (omega (arith, occ-count v n l xs)))))
+
+module _ {N : ℕ} {xs : List ℕ} (o : Order N xs) where
+  -- each number below N stands there once
+  pub order-once : (v : ℕ) → v < N → occ v xs ≡ 1
+  order-once v h = omega (arith, count-step v xs, o .counts v (omega arith), o .counts (suc v) h)
+
+  -- and no other stands there
+  pub order-none : (v : ℕ) → N ≤ v → occ v xs ≡ 0
+  order-none v h = omega (arith, occ-count v N h xs, o .counts N (le-refl N), o .size)
+
+  pub order-occ : (v : ℕ) → occ v xs ≤ 1
+  order-occ v = by-below v N (λ h. omega (arith, order-once v h)) (λ h. omega (arith, order-none v h))
+
+  pub order-all : All (below N) xs
+  order-all = all-of-length (below N) xs (o .counts N (le-refl N) ∙ sym (o .size))
+
+  -- the numbers below n of an order of 0..N are an order of 0..n
+  pub order-part : (n : ℕ) → n ≤ N → Order n (keep (below n) xs)
+  order-part n h = record {
+    size = o .counts n h;
+    counts = λ m k. ap length (keep-keep (below m) (below n) (below-below k) xs) ∙ o .counts m (omega arith);
+  }

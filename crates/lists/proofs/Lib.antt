@@ -6,4 +6,12 @@ pub mod Members
 pub mod Extremes
 pub mod Counting
 pub mod Permutations
+pub mod Prefixes
+pub mod Replacing
+pub mod Standing
+pub mod Exchanges
+pub mod Without
+pub mod Writing
+pub mod Searching
 pub mod Tables
+pub mod Turns

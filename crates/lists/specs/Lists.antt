@@ -1,10 +1,10 @@
 -- Lists of numbers by a test: the words that the definitions of the crates above are written in.
 -- Assumes nothing.
-use mathlib.Core.Bool.{Bool, true, false}
-use mathlib.Core.List.{List, [], _∷_}
+use mathlib.Core.Bool.{Bool, true, false, cond, _&&_, not}
+use mathlib.Core.List.{List, [], _∷_, _++_}
 use mathlib.Core.Option.{Option, none, some}
-use Prim.Native.Nat.{ℕ, zero, suc, max, min}
-use lib.ListN.{length}
+use Prim.Native.Nat.{ℕ, zero, suc, _-_, max, min}
+use lib.ListN.{length, drop, getD}
 use lib.Dec.{ltb, leb, eqb}
 
 -- x in front of xs, where the test passed
@@ -76,3 +76,51 @@ largest xs = pick max xs
 
 abbrev pub smallest : List ℕ → Option ℕ
 smallest xs = pick min xs
+
+-- whether every entry passes
+unfoldable pub every : (ℕ → Bool) → List ℕ → Bool
+every p [] = true
+every p (x ∷ xs) = p x && every p xs
+
+-- one less to find, where the test passed
+abbrev pub left : Bool → ℕ → ℕ
+left true k = k
+left false k = suc k
+
+-- the list up to and with its k-th entry that passes; all of it where it has fewer
+abbrev pub upTo : (ℕ → Bool) → ℕ → List ℕ → List ℕ
+upTo p k [] = []
+upTo p zero (x ∷ xs) = []
+upTo p (suc k) (x ∷ xs) = x ∷ upTo p (left (p x) k) xs
+
+-- the list xs with its t-th entry that passes replaced by the t-th entry of ys, by 0 where ys has none
+abbrev pub replace : (ℕ → Bool) → List ℕ → List ℕ → List ℕ
+replace p [] ys = []
+replace p (x ∷ xs) ys = cond (p x) (getD ys 0 0) x ∷ replace p xs (cond (p x) (drop 1 ys) ys)
+
+-- how many of the first u entries stand when last ones that fail are dropped while more than k stand
+unfoldable pub standing : (ℕ → Bool) → ℕ → List ℕ → ℕ → ℕ
+standing p k xs zero = zero
+standing p k xs (suc u) = cond (ltb k (suc u)) (cond (p (getD xs u 0)) (suc u) (standing p k xs u)) (suc u)
+
+-- the last entry, 0 of an empty list
+unfoldable pub last : List ℕ → ℕ
+last xs = getD xs (length xs - 1) 0
+
+-- the entries other than v, in order
+unfoldable pub other : ℕ → ℕ → Bool
+other v x = not (same v x)
+
+abbrev pub without : ℕ → List ℕ → List ℕ
+without v xs = keep (other v) xs
+
+-- xs written over the first places of a longer list
+unfoldable pub written : List ℕ → List ℕ → List ℕ
+written xs l = xs ++ drop (length xs) l
+
+-- the first of the c numbers from n up that passes
+abbrev pub firstFrom : (ℕ → Bool) → ℕ → ℕ → Option ℕ
+firstFrom p n zero = none
+firstFrom p n (suc c) =
+    let later = firstFrom p (suc n) c in
+    cond (p n) (some n) later

@@ -3,8 +3,8 @@
 use mathlib.Core.Path.{_≡_, sym, ap, _∙_}
 use native.Mathlib.Omega.{arith}
 use borrow.Author.Needs.{needs}
-use Rattle.hashes.specs.declared.ConsistentHashRevIterator.{ConsistentHashRevIterator}
 use Rattle.lists.specs.Told.{says, refusal}
+use Rattle.hashes.specs.declared.ConsistentHashRevIterator.{ConsistentHashRevIterator}
 use Rattle.hashes.specs.Walks.{toldFalling, fallingFrom}
 use Rattle.hashes.proofs.WalkLaws.{belowOf}
 use Rattle.hashes.proofs.CallLaws.{limited-says}

@@ -2,8 +2,8 @@
 -- Assumes nothing.
 use mathlib.Core.Path.{ap, _∙_}
 use borrow.Author.Needs.{needs}
+use Rattle.lists.specs.Steps.{Step}
 use Rattle.hashes.specs.declared.ConsistentHashIterator.{ConsistentHashIterator}
-use Rattle.hashes.specs.Walks.{Step}
 use Rattle.exports.specs.Coded.{codedHash}
 use Rattle.exports.proofs.perillajamb_rising_next.Statement.{statement}
 use Rattle.exports.proofs.perillajamb_rising_next.Tie as tie

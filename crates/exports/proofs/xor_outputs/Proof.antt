@@ -2,9 +2,9 @@
 -- Assumes nothing.
 use mathlib.Core.Path.{_≡_, refl, ap, ap₂, _∙_}
 use Prim.Native.Nat.{_≤_, _-_}
-use lib.Bits.{bitXor}
-use borrow.Author.Needs.{needs}
 use native.Mathlib.Omega.{arith}
+use borrow.Author.Needs.{needs}
+use lib.Bits.{bitXor}
 use Rattle.layers.specs.KeyedLayers.{applied}
 use Rattle.exports.specs.Coded.{xors}
 use Rattle.exports.proofs.XorLaws.{xors-step}

@@ -1,0 +1,17 @@
+// Parts of the numbers that cross.
+ghost use mathlib.Core.Path.{_≡_};
+ghost use Prim.Native.Nat.{_+_, _*_, _^_};
+
+// The number of a refusal.
+pub(crate) fn refused(c: u32) -> u64
+    ensures { λ r. ⌜ r ≡ 2 ^ 63 + c ⌝ }
+{
+    0x8000_0000_0000_0000 + (c as u64)
+}
+
+// Two words as one number.
+pub(crate) fn joined(low: u32, high: u32) -> u64
+    ensures { λ r. ⌜ r ≡ high * 2 ^ 32 + low ⌝ }
+{
+    (high as u64) * 0x1_0000_0000 + (low as u64)
+}
