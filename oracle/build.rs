@@ -13,12 +13,34 @@ const FILES: [&str; 5] = [
 ];
 
 /// In which file, the text that hides something, and what stands in its place. `splitmix64` is there for the original's own
-/// tests only.
-const OPENED: [(&str, &str, &str); 1] = [(
-    "consistent_permutation",
-    "#[cfg(test)]\n#[inline]\nfn splitmix64",
-    "#[inline]\npub fn splitmix64",
-)];
+/// tests only. A reservoir is copied to see what a call would end with.
+const OPENED: [(&str, &str, &str); 2] = [
+    (
+        "consistent_permutation",
+        "#[cfg(test)]\n#[inline]\nfn splitmix64",
+        "#[inline]\npub fn splitmix64",
+    ),
+    (
+        "consistent_reservoir",
+        "pub struct ConsistentReservoir {",
+        "#[derive(Clone)]\npub struct ConsistentReservoir {",
+    ),
+];
+
+/// In which file, and what is put behind its text: how to read private fields that are compared.
+const READ: [(&str, &str); 2] = [
+    (
+        "consistent_permutation",
+        "impl ConsistentPermutation { pub fn counters(&self) -> &[u32] { &self.counters } }",
+    ),
+    (
+        "consistent_reservoir",
+        "impl ConsistentReservoir {
+            pub fn values(&self) -> &[u32] { &self.values }
+            pub fn j_max(&self) -> u32 { self.j_max }
+        }",
+    ),
+];
 
 fn main() {
     let here = PathBuf::from(env::var("CARGO_MANIFEST_DIR").unwrap());
@@ -51,6 +73,9 @@ fn module(from: &Path, to: &Path, name: &str) -> String {
             from.display()
         );
         text = text.replace(hidden, open);
+    }
+    for (_, reader) in READ.iter().filter(|(file, _)| *file == name) {
+        text += reader;
     }
     fs::write(to, text).unwrap();
     format!("#[path = {:?}]\npub mod {name};\n", to)

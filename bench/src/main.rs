@@ -1,13 +1,24 @@
 //! Times the proved library beside the original: the same inputs, one run, the lowest of several measurements of each.
 
 mod hashes;
+mod orders;
+mod reservoirs;
 
 use std::hint::black_box;
 use std::time::Instant;
 
 const REPEATS: usize = 15;
 
-/// Nanoseconds for each of `count` items, the lowest of the repeats. The two sides take turns.
+const KEY: u64 = 0xDEAD_BEEF_CAFE_F00D;
+
+/// Nanoseconds for each of `count` items in one run.
+fn timed(count: u64, side: &dyn Fn() -> u64) -> f64 {
+    let start = Instant::now();
+    black_box(side());
+    start.elapsed().as_nanos() as f64 / count as f64
+}
+
+/// The same for both sides, the lowest of the repeats. They take turns.
 fn measure(count: u64, ours: impl Fn() -> u64, theirs: impl Fn() -> u64) -> (f64, f64) {
     assert_eq!(ours(), theirs(), "the two sides work out different things");
     let mut best = [f64::MAX; 2];
@@ -16,12 +27,15 @@ fn measure(count: u64, ours: impl Fn() -> u64, theirs: impl Fn() -> u64) -> (f64
             .into_iter()
             .zip(&mut best)
         {
-            let start = Instant::now();
-            black_box(side());
-            *time = time.min(start.elapsed().as_nanos() as f64 / count as f64);
+            *time = time.min(timed(count, side));
         }
     }
     (best[0], best[1])
+}
+
+/// For what the original does not do.
+fn measure_alone(count: u64, ours: impl Fn() -> u64) -> f64 {
+    (0..REPEATS).fold(f64::MAX, |best, _| best.min(timed(count, &ours)))
 }
 
 fn report(what: &str, (ours, theirs): (f64, f64)) {
@@ -29,6 +43,10 @@ fn report(what: &str, (ours, theirs): (f64, f64)) {
         "{what:<44} {ours:>8.2} {theirs:>8.2} {:>7.2}",
         ours / theirs
     );
+}
+
+fn report_alone(what: &str, ours: f64) {
+    println!("{what:<44} {ours:>8.2}");
 }
 
 #[inline(never)]
@@ -50,7 +68,6 @@ fn splitmix64(v: u64) -> u64 {
 }
 
 fn main() {
-    let key = 0xDEAD_BEEF_CAFE_F00D;
     println!(
         "{:<44} {:>8} {:>8} {:>7}",
         "nanoseconds each", "proved", "Rust", "ratio"
@@ -60,10 +77,10 @@ fn main() {
         let turns = ((1u64 << 22) / u64::from(n)).max(1);
         let ours = || {
             (0..turns).fold(0, |s, t| {
-                s ^ u64::from(proved::layer_xors(layer, key ^ t, n).unwrap()) << (t % 8)
+                s ^ u64::from(proved::layer_xors(layer, KEY ^ t, n).unwrap()) << (t % 8)
             })
         };
-        let theirs = || (0..turns).fold(0, |s, t| s ^ layer_xors(layer, key ^ t, n) << (t % 8));
+        let theirs = || (0..turns).fold(0, |s, t| s ^ layer_xors(layer, KEY ^ t, n) << (t % 8));
         report(
             &format!("layer {layer} over its {n} inputs"),
             measure(turns * u64::from(n), ours, theirs),
@@ -75,8 +92,8 @@ fn main() {
         let runs = |f: &dyn Fn(u32) -> u32| {
             (0..turns).fold(0, |s, _| s + (0..n).fold(0, |s, x| s ^ u64::from(f(x))))
         };
-        let ours = || runs(&|x| proved::layer_apply(layer, key, x).unwrap());
-        let theirs = || runs(&|x| layer_apply(layer, key, x));
+        let ours = || runs(&|x| proved::layer_apply(layer, KEY, x).unwrap());
+        let theirs = || runs(&|x| layer_apply(layer, KEY, x));
         report(
             &format!("layer_apply of layer {layer}, one call each"),
             measure(turns * u64::from(n), ours, theirs),
@@ -89,4 +106,6 @@ fn main() {
         measure(calls, || chain(&proved::splitmix64), || chain(&splitmix64)),
     );
     hashes::all();
+    orders::all();
+    reservoirs::all();
 }

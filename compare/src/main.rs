@@ -1,32 +1,45 @@
-//! The proved library against the original on random and boundary inputs. compare [N]: N million inputs (default 1).
-//! Prints the first difference with its input, and ends with status 1.
+//! The proved library against the original on random and boundary inputs, and against document 01's steps on memory made by
+//! hand. compare [N]: N million inputs (default 1). Prints the first difference with its input, and ends with status 1.
 
+mod document;
 mod hashes;
 mod layers;
+mod orders;
+mod reservoirs;
 mod words;
 
-use oracle::Draws;
+use std::fmt::{Debug, Display};
+
+use oracle::{Draws, Told};
+use proved::Refused;
 
 /// Tries one input: nothing where both agree, else the input and both answers.
 type Trial = fn(&mut Draws) -> Option<String>;
 
 /// A call, how many of 100 inputs go to it, and the trial.
-const CALLS: [(&str, u64, Trial); 15] = [
-    ("wrapping_mul", 4, words::wrapping_mul),
-    ("rotate_right", 4, words::rotate_right),
-    ("splitmix64", 4, words::splitmix64),
-    ("layer_apply", 15, layers::layer_apply),
-    ("KeyedLayer, over 0..n", 4, layers::layer_xors),
-    ("layer_apply, refusals", 5, layers::refusals),
-    ("seq_builder", 4, hashes::seq_builder),
-    ("prev", 20, hashes::prev),
-    ("into_prev", 5, hashes::into_prev),
-    ("next", 20, hashes::next),
+const CALLS: [(&str, u64, Trial); 22] = [
+    ("wrapping_mul", 3, words::wrapping_mul),
+    ("rotate_right", 3, words::rotate_right),
+    ("splitmix64", 3, words::splitmix64),
+    ("layer_apply", 10, layers::layer_apply),
+    ("KeyedLayer, over 0..n", 3, layers::layer_xors),
+    ("layer_apply, refusals", 4, layers::refusals),
+    ("seq_builder", 3, hashes::seq_builder),
+    ("prev", 11, hashes::prev),
+    ("into_prev", 3, hashes::into_prev),
+    ("next", 11, hashes::next),
     ("falling walk, step by step", 2, hashes::falling_steps),
     ("rising walk, step by step", 2, hashes::rising_steps),
-    ("falling walk, digested", 3, hashes::falling_digest),
-    ("rising walk, digested", 3, hashes::rising_digest),
-    ("hashes, refusals", 5, hashes::refusals),
+    ("falling walk, digested", 2, hashes::falling_digest),
+    ("rising walk, digested", 2, hashes::rising_digest),
+    ("hashes, refusals", 3, hashes::refusals),
+    ("orders, step by step", 10, orders::steps),
+    ("orders, digested", 3, orders::digest),
+    ("orders made by hand", 5, orders::handmade),
+    ("orders, refusals", 1, orders::refusals),
+    ("reservoirs, opened and followed", 10, reservoirs::histories),
+    ("reservoirs made by hand", 5, reservoirs::handmade),
+    ("reservoirs, refusals", 1, reservoirs::refusals),
 ];
 
 fn main() {
@@ -62,6 +75,11 @@ fn word(draws: &mut Draws) -> u64 {
     }
 }
 
-fn differ<T: PartialEq + std::fmt::Debug>(input: String, ours: T, theirs: T) -> Option<String> {
-    (ours != theirs).then(|| format!("{input}: proved {ours:?}, original {theirs:?}"))
+/// A refusal as the oracle has it.
+fn told<T>(said: Result<T, Refused>) -> Told<T> {
+    said.map_err(|Refused(c)| c)
+}
+
+fn differ<T: PartialEq + Debug>(input: impl Display, ours: T, theirs: T) -> Option<String> {
+    (ours != theirs).then(|| format!("{input}: proved {ours:?}, expected {theirs:?}"))
 }

@@ -2,14 +2,13 @@
 
 use oracle::{falling_digest, into_prev, next, prev, rising_digest, seq_builder, Draws};
 
+use crate::{coded, NONE};
+
 /// The largest n.
 const LIMIT: u64 = 1 << 62;
 
 /// The bit that stands for no bucket.
 const BIT_63: u64 = 1 << 63;
-
-/// An answer as the library's C functions give it: none is 2^63, refusal c is 2^63 + c.
-const NONE: u64 = 1 << 63;
 
 /// A call with a state and an n: its letter, and its answer.
 const CALLS: [(char, fn(u64, u64) -> u64); 5] = [
@@ -123,7 +122,7 @@ pub fn hashes() -> Vec<String> {
 
 /// A letter, the state, an n above the limit, and 2^63 + 1: by document 01, since the original answers there too.
 pub fn refusals() -> Vec<String> {
-    let refused = NONE + 1;
+    let refused = coded(Err(1));
     let mut lines = Vec::new();
     for (letter, _) in CALLS {
         for state in STATES {

@@ -1,7 +1,6 @@
 //! The original's calls on hashes, under the stand-in with a given state.
 
-use std::hash::Hasher;
-
+use crate::stand_in::digest;
 use crate::{
     ConsistentHashIterator, ConsistentHashRevIterator, ConsistentHasher, HashSeqBuilder,
     ManySeqBuilder, StandIn,
@@ -34,18 +33,13 @@ pub fn next(state: u64, n: u64) -> Option<u64> {
 /// The walk from n down, digested.
 #[inline]
 pub fn falling_digest(state: u64, n: u64) -> u64 {
-    digest(ConsistentHashRevIterator::new(n as usize, StandIn(state)))
+    let walk = ConsistentHashRevIterator::new(n as usize, StandIn(state));
+    digest(walk.map(|hash| hash as u64))
 }
 
 /// The walk from n up, digested.
 #[inline]
 pub fn rising_digest(state: u64, n: u64) -> u64 {
-    digest(ConsistentHashIterator::new(n as usize, StandIn(state)))
-}
-
-/// A walk as one number: its hashes fed to a stand-in of state 0, in their order, and what that finishes with, modulo 2^63.
-fn digest(walk: impl Iterator<Item = usize>) -> u64 {
-    let mut all = StandIn(0);
-    walk.for_each(|hash| all.write_usize(hash));
-    all.finish() % (1 << 63)
+    let walk = ConsistentHashIterator::new(n as usize, StandIn(state));
+    digest(walk.map(|hash| hash as u64))
 }

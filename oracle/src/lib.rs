@@ -5,6 +5,8 @@
 include!(concat!(env!("OUT_DIR"), "/original.rs"));
 
 mod hashes;
+mod orders;
+mod reservoirs;
 mod stand_in;
 
 pub use choose_k::ConsistentChooseKHasher;
@@ -12,9 +14,12 @@ pub use consistent_hash::{
     ConsistentHashIterator, ConsistentHashRevIterator, ConsistentHasher, HashSeqBuilder,
     HashSequence, ManySeqBuilder,
 };
-pub use consistent_permutation::splitmix64;
+pub use consistent_permutation::{splitmix64, ConsistentPermutation};
+pub use consistent_reservoir::ConsistentReservoir;
 pub use hashes::{falling_digest, into_prev, next, prev, rising_digest, seq_builder};
-pub use stand_in::{Draws, StandIn};
+pub use orders::{order_digest, Order};
+pub use reservoirs::{Reservoir, Told, UNTOUCHED};
+pub use stand_in::{digest, Draws, StandIn};
 
 /// The original's `layer_apply`, which is not public there, by layer instead of bits.
 #[inline]

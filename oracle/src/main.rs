@@ -1,13 +1,34 @@
 //! Prints answers of the original for stated inputs, a line each: a letter, then numbers in hexadecimal.
 //!
-//! oracle mix | layers | hashes | refusals: the answers. oracle expected: what the replay of all of them prints.
+//! oracle SET: the answers of that set. oracle expected: what the replay of all sets prints.
 
+mod handmade_sets;
 mod hash_sets;
+mod order_sets;
+mod reservoir_sets;
 
-use oracle::{layer_apply, splitmix64, Draws};
+use oracle::{layer_apply, splitmix64, Draws, Told};
 
 /// Keys that show a slip in the key schedule: nothing set, the lowest bit, the lowest bit of the high half, all.
 const KEYS: [u64; 4] = [0, 1, 1 << 32, u64::MAX];
+
+/// None, as the library's C functions give it where an answer is below 2^63.
+const NONE: u64 = 1 << 63;
+
+/// An answer as they give it: itself, none, or 2^63 + c for refusal c.
+fn coded(said: Told<Option<u64>>) -> u64 {
+    match said {
+        Ok(number) => number.unwrap_or(NONE),
+        Err(c) => NONE + u64::from(c),
+    }
+}
+
+/// Those keys and some more.
+fn keys(more: usize, draws: &mut Draws) -> Vec<u64> {
+    let mut keys = KEYS.to_vec();
+    keys.extend((0..more).map(|_| draws.next()));
+    keys
+}
 
 /// `m v mix(v)`.
 fn mix() -> Vec<String> {
@@ -37,9 +58,7 @@ fn layers() -> Vec<String> {
     let mut draws = Draws(2);
     let mut lines = Vec::new();
     for layer in 0..15u32 {
-        let mut keys = KEYS.to_vec();
-        keys.extend((0..4).map(|_| draws.next()));
-        for key in keys {
+        for key in keys(4, &mut draws) {
             for x in inputs(1 << (2 * layer + 2), &mut draws) {
                 let y = layer_apply(layer, key, x as u32);
                 lines.push(format!("l {layer:x} {key:x} {x:x} {y:x}"));
@@ -70,7 +89,12 @@ fn layer_refusals() -> Vec<String> {
 }
 
 fn refusals() -> Vec<String> {
-    [layer_refusals(), hash_sets::refusals()].concat()
+    [
+        layer_refusals(),
+        hash_sets::refusals(),
+        order_sets::refusals(),
+    ]
+    .concat()
 }
 
 /// A set's name, where its answers are from, and its lines.
@@ -78,14 +102,25 @@ type Set = (&'static str, &'static str, fn() -> Vec<String>);
 
 const ORIGINAL: &str = "consistent-choose-k of github/rust-gems 9804c5bc17, built in release";
 
-const SETS: [Set; 4] = [
+const ORIGINAL_IN_LISTS: &str =
+    "consistent-choose-k of github/rust-gems 9804c5bc17, built in release; \
+    refusal 4 is document 01's, for a list shorter than what the original ends with";
+
+const SETS: [Set; 7] = [
     ("mix", ORIGINAL, mix),
     ("layers", ORIGINAL, layers),
     ("hashes", ORIGINAL, hash_sets::hashes),
+    ("orders", ORIGINAL, order_sets::orders),
+    ("reservoirs", ORIGINAL_IN_LISTS, reservoir_sets::reservoirs),
     (
         "refusals",
         "document 01, since the original does not refuse",
         refusals,
+    ),
+    (
+        "handmade",
+        "document 01, since the original keeps its memory to itself",
+        handmade_sets::handmade,
     ),
 ];
 
@@ -98,7 +133,8 @@ fn main() {
         return;
     }
     let Some((name, from, lines)) = SETS.iter().find(|(name, _, _)| *name == wanted) else {
-        eprintln!("usage: oracle mix | layers | hashes | refusals | expected");
+        let names: Vec<_> = SETS.iter().map(|(name, _, _)| *name).collect();
+        eprintln!("usage: oracle {} | expected", names.join(" | "));
         std::process::exit(2);
     };
     println!("# {name}: made by oracle/make. Answers of {from}.");

@@ -26,6 +26,13 @@ impl Hasher for StandIn {
     }
 }
 
+/// Numbers as one: fed to a stand-in of state 0, in their order, and what that finishes with, modulo 2^63.
+pub fn digest(numbers: impl Iterator<Item = u64>) -> u64 {
+    let mut all = StandIn(0);
+    numbers.for_each(|number| all.write_u64(number));
+    all.finish() % (1 << 63)
+}
+
 /// Numbers to try things with: the same ones in every run.
 pub struct Draws(pub u64);
 

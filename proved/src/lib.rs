@@ -15,6 +15,44 @@ extern "C" {
     fn perillajamb_rising_next(state: u64, low: u64) -> u64;
     fn perillajamb_falling_digest(state: u64, n: u64) -> u64;
     fn perillajamb_rising_digest(state: u64, n: u64) -> u64;
+    fn perillajamb_order_new(n: u32, key: u64, order: *mut u32, words: usize) -> u64;
+    fn perillajamb_order_next(order: *mut u32, words: usize) -> u64;
+    fn perillajamb_order_digest(n: u32, key: u64, count: u32) -> u64;
+    fn perillajamb_reservoir_new(
+        k: u32,
+        n: u32,
+        key: u64,
+        list: *mut u32,
+        places: usize,
+        record: *mut u32,
+        words: usize,
+    ) -> u64;
+    fn perillajamb_reservoir_next(
+        record: *mut u32,
+        words: usize,
+        list: *mut u32,
+        places: usize,
+    ) -> u64;
+    fn perillajamb_reservoir_grow_layer(
+        record: *mut u32,
+        words: usize,
+        list: *mut u32,
+        places: usize,
+    ) -> u64;
+    fn perillajamb_reservoir_sample(
+        record: *const u32,
+        words: usize,
+        list: *const u32,
+        places: usize,
+        out: *mut u32,
+        out_places: usize,
+    ) -> u64;
+    fn perillajamb_reservoir_fits(
+        record: *const u32,
+        words: usize,
+        list: *const u32,
+        places: usize,
+    ) -> u64;
 }
 
 /// A refusal, by document 01's number.
@@ -30,9 +68,9 @@ fn decoded(answer: u64) -> Result<u32, Refused> {
     }
 }
 
-/// A hash, always below 2^63, comes as it is, none as 2^63, refusal c as 2^63 + c.
+/// A hash or another number below 2^63 comes as it is, none as 2^63, refusal c as 2^63 + c.
 #[inline]
-fn decoded_hash(answer: u64) -> Result<Option<u64>, Refused> {
+fn decoded_found(answer: u64) -> Result<Option<u64>, Refused> {
     const NONE: u64 = 1 << 63;
     if answer < NONE {
         Ok(Some(answer))
@@ -43,9 +81,16 @@ fn decoded_hash(answer: u64) -> Result<Option<u64>, Refused> {
     }
 }
 
-/// A number below 2^63 comes as a hash does, but is never none.
+/// The same, never none.
+#[inline]
 fn decoded_number(answer: u64) -> Result<u64, Refused> {
-    decoded_hash(answer).map(|number| number.expect("a number, not none"))
+    decoded_found(answer).map(|number| number.expect("a number, not none"))
+}
+
+/// A call with nothing to say but a refusal says 0.
+#[inline]
+fn decoded_done(answer: u64) -> Result<(), Refused> {
+    decoded_number(answer).map(|number| assert_eq!(number, 0))
 }
 
 pub fn wrapping_mul(a: u64, b: u64) -> u64 {
@@ -76,21 +121,21 @@ pub fn seq_builder(state: u64, i: u64) -> u64 {
 
 #[inline]
 pub fn prev(state: u64, n: u64) -> Result<Option<u64>, Refused> {
-    decoded_hash(unsafe { perillajamb_prev(state, n) })
+    decoded_found(unsafe { perillajamb_prev(state, n) })
 }
 
 pub fn into_prev(state: u64, n: u64) -> Result<Option<u64>, Refused> {
-    decoded_hash(unsafe { perillajamb_into_prev(state, n) })
+    decoded_found(unsafe { perillajamb_into_prev(state, n) })
 }
 
 #[inline]
 pub fn next(state: u64, n: u64) -> Result<Option<u64>, Refused> {
-    decoded_hash(unsafe { perillajamb_next(state, n) })
+    decoded_found(unsafe { perillajamb_next(state, n) })
 }
 
 /// A step of the falling walk whose n is given; after a hash that is its n.
 pub fn falling_next(state: u64, n: u64) -> Result<Option<u64>, Refused> {
-    decoded_hash(unsafe { perillajamb_falling_next(state, n) })
+    decoded_found(unsafe { perillajamb_falling_next(state, n) })
 }
 
 /// Where the rising walk from n starts.
@@ -100,7 +145,7 @@ pub fn rising_low(n: u64) -> Result<u64, Refused> {
 
 /// A step of the rising walk whose `low` is given; after a hash that is one above it.
 pub fn rising_next(state: u64, low: u64) -> Result<Option<u64>, Refused> {
-    decoded_hash(unsafe { perillajamb_rising_next(state, low) })
+    decoded_found(unsafe { perillajamb_rising_next(state, low) })
 }
 
 /// The walk from n down, digested as the oracle does it.
@@ -111,4 +156,98 @@ pub fn falling_digest(state: u64, n: u64) -> Result<u64, Refused> {
 /// The walk from n up, likewise.
 pub fn rising_digest(state: u64, n: u64) -> Result<u64, Refused> {
     decoded_number(unsafe { perillajamb_rising_digest(state, n) })
+}
+
+/// A new order in the first 18 words lent: the key's low half and high half, n, the fifteen counters.
+pub fn order_new(n: u32, key: u64, order: &mut [u32]) -> Result<(), Refused> {
+    let answer = unsafe { perillajamb_order_new(n, key, order.as_mut_ptr(), order.len()) };
+    decoded_done(answer)
+}
+
+/// The next number of an order, or none.
+#[inline]
+pub fn order_next(order: &mut [u32]) -> Result<Option<u32>, Refused> {
+    let answer = unsafe { perillajamb_order_next(order.as_mut_ptr(), order.len()) };
+    Ok(decoded_found(answer)?.map(|x| u32::try_from(x).unwrap()))
+}
+
+/// The numbers of an order's first `count` calls, digested as the oracle does it.
+pub fn order_digest(n: u32, key: u64, count: u32) -> Result<u64, Refused> {
+    decoded_number(unsafe { perillajamb_order_digest(n, key, count) })
+}
+
+/// A new reservoir in a list, and in the first six words lent: the key's low half and high half, k, n, the layer, the used
+/// length.
+#[inline]
+pub fn reservoir_new(
+    k: u32,
+    n: u32,
+    key: u64,
+    list: &mut [u32],
+    record: &mut [u32],
+) -> Result<(), Refused> {
+    let answer = unsafe {
+        perillajamb_reservoir_new(
+            k,
+            n,
+            key,
+            list.as_mut_ptr(),
+            list.len(),
+            record.as_mut_ptr(),
+            record.len(),
+        )
+    };
+    decoded_done(answer)
+}
+
+/// An admit: the number that comes in and the one that goes out, or none. They come as in * 2^32 + out.
+#[inline]
+pub fn reservoir_next(record: &mut [u32], list: &mut [u32]) -> Result<Option<(u32, u32)>, Refused> {
+    let answer = unsafe {
+        perillajamb_reservoir_next(
+            record.as_mut_ptr(),
+            record.len(),
+            list.as_mut_ptr(),
+            list.len(),
+        )
+    };
+    Ok(decoded_found(answer)?.map(|pair| ((pair >> 32) as u32, pair as u32)))
+}
+
+pub fn reservoir_grow_layer(record: &mut [u32], list: &mut [u32]) -> Result<(), Refused> {
+    let answer = unsafe {
+        perillajamb_reservoir_grow_layer(
+            record.as_mut_ptr(),
+            record.len(),
+            list.as_mut_ptr(),
+            list.len(),
+        )
+    };
+    decoded_done(answer)
+}
+
+/// The sample, into the first k places of `out`.
+pub fn reservoir_sample(record: &[u32], list: &[u32], out: &mut [u32]) -> Result<(), Refused> {
+    let answer = unsafe {
+        perillajamb_reservoir_sample(
+            record.as_ptr(),
+            record.len(),
+            list.as_ptr(),
+            list.len(),
+            out.as_mut_ptr(),
+            out.len(),
+        )
+    };
+    decoded_done(answer)
+}
+
+/// Whether a record fits its list: refusal 12's test, as 1 or 0.
+#[inline]
+pub fn reservoir_fits(record: &[u32], list: &[u32]) -> Result<bool, Refused> {
+    let answer = unsafe {
+        perillajamb_reservoir_fits(record.as_ptr(), record.len(), list.as_ptr(), list.len())
+    };
+    let yes = decoded_number(answer)?;
+    assert!(yes <= 1);
+    Ok(yes == 1)
 }

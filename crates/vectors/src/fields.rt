@@ -1,12 +1,15 @@
-// A line of a file of answers: a letter, then numbers in hexadecimal, parted by single spaces; the last is the answer.
+// A line of a file of answers: a letter, then numbers in hexadecimal, parted by single spaces; the last is the answer, or the
+// last ones are the answer and the memory after it.
 ghost use Prim.Native.Nat.{_<_};
+use crate::calls;
+use crate::histories;
 
 // The line as far as it was read: its letter (0 before it came), the place of the number that is being read, the numbers.
 // Place 0 is the letter's own.
 pub struct Fields {
     pub letter: u8,
     pub at: usize,
-    pub values: [u64; 8],
+    pub values: [u64; 64],
 }
 
 // The worth of a hexadecimal digit in lower case.
@@ -20,7 +23,7 @@ fn digit(b: u8) -> u64
     (low + 9) % 16
 }
 
-fn word(v: u64) -> u32 {
+pub(crate) fn word(v: u64) -> u32 {
     (v % 0x1_0000_0000) as u32
 }
 
@@ -29,14 +32,14 @@ impl Fields {
         Fields {
             letter: 0,
             at: 0,
-            values: [0; 8],
+            values: [0; 64],
         }
     }
 
     // The line with a byte more.
     pub(crate) fn with(self, b: u8) -> Fields {
         let letter = self.letter;
-        let at = self.at % 8;
+        let at = self.at % 64;
         let mut values = self.values;
         if letter == 0 {
             return Fields {
@@ -56,7 +59,7 @@ impl Fields {
         Fields { letter, at, values }
     }
 
-    // Whether the library answers as the line says. A letter that none of the calls has never agrees.
+    // Whether the library answers as the line says.
     pub(crate) fn agrees(self) -> bool {
         let v = self.values;
         let letter = self.letter;
@@ -69,7 +72,12 @@ impl Fields {
             b'n' => exports::perillajamb_next(v[1], v[2]) == v[3],
             b'f' => exports::perillajamb_falling_digest(v[1], v[2]) == v[3],
             b'r' => exports::perillajamb_rising_digest(v[1], v[2]) == v[3],
-            _ => false,
+            b'o' => exports::permutations::perillajamb_order_digest(word(v[1]), v[2], word(v[3]))
+                == v[4],
+            b'w' => histories::walk_agrees(self),
+            b'a' => histories::history_agrees(self, false),
+            b'g' => histories::history_agrees(self, true),
+            _ => calls::agrees(self),
         }
     }
 }

@@ -1,5 +1,8 @@
 // Replays the stored answers of the original through the proved library, and says how many agree.
+mod calls;
 mod fields;
+mod histories;
+mod memory;
 mod tally;
 
 use fields::Fields;
@@ -108,5 +111,8 @@ fn main() {
     replay_file(b"mix.txt", b"mix: ");
     replay_file(b"layers.txt", b"layers: ");
     replay_file(b"hashes.txt", b"hashes: ");
+    replay_file(b"orders.txt", b"orders: ");
+    replay_file(b"reservoirs.txt", b"reservoirs: ");
     replay_file(b"refusals.txt", b"refusals: ");
+    replay_file(b"handmade.txt", b"handmade: ");
 }

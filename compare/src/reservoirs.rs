@@ -1,0 +1,294 @@
+//! Trials of reservoirs.
+
+use oracle::{ConsistentReservoir, Draws, Reservoir, Told, UNTOUCHED};
+
+use crate::document::{size, Memory};
+use crate::orders::{above_limit, any_n, LIMIT};
+use crate::{differ, told, word};
+
+/// The number that an admit brings in and the one that it puts out.
+type Exchange = Option<(u32, u32)>;
+
+/// A call on a reservoir. A sample is asked for in a list of so many places.
+#[derive(Clone, Copy, Debug)]
+enum Call {
+    Admit,
+    GrowLayer,
+    Sample(u64),
+    Fits,
+}
+
+impl Call {
+    /// An admit more often than not.
+    fn any(draws: &mut Draws) -> Self {
+        match draws.below(16) {
+            0 => Call::Fits,
+            1 => Call::Sample(draws.below(16)),
+            2 => Call::Sample(2000),
+            3..6 => Call::GrowLayer,
+            _ => Call::Admit,
+        }
+    }
+}
+
+/// A reservoir in its memory: the library's, the original's, or document 01's.
+trait Side {
+    /// The record's words, with one more behind them, and the list.
+    fn memory(&self) -> ([u32; 7], &[u32]);
+    fn admit(&mut self) -> Told<Exchange>;
+    fn grow_layer(&mut self) -> Told<()>;
+    fn sample(&self, out: &mut [u32]) -> Told<()>;
+    fn fits(&self) -> Told<bool>;
+
+    /// What a call says, and the list of a sample after it.
+    fn call(&mut self, call: Call) -> (Told<Exchange>, Vec<u32>) {
+        let mut out = Vec::new();
+        let said = match call {
+            Call::Admit => self.admit(),
+            Call::GrowLayer => self.grow_layer().map(|()| None),
+            Call::Sample(places) => {
+                out.resize(places as usize, UNTOUCHED);
+                self.sample(&mut out).map(|()| None)
+            }
+            Call::Fits => self.fits().map(|yes| yes.then_some((0, 0))),
+        };
+        (said, out)
+    }
+}
+
+fn with_rest(words: [u32; 6]) -> [u32; 7] {
+    let mut all = [UNTOUCHED; 7];
+    all[..6].copy_from_slice(&words);
+    all
+}
+
+/// The memory that the library is lent.
+struct Lent {
+    words: [u32; 7],
+    list: Vec<u32>,
+}
+
+impl Side for Lent {
+    fn memory(&self) -> ([u32; 7], &[u32]) {
+        (self.words, &self.list)
+    }
+
+    fn admit(&mut self) -> Told<Exchange> {
+        told(proved::reservoir_next(&mut self.words, &mut self.list))
+    }
+
+    fn grow_layer(&mut self) -> Told<()> {
+        told(proved::reservoir_grow_layer(
+            &mut self.words,
+            &mut self.list,
+        ))
+    }
+
+    fn sample(&self, out: &mut [u32]) -> Told<()> {
+        told(proved::reservoir_sample(&self.words, &self.list, out))
+    }
+
+    fn fits(&self) -> Told<bool> {
+        told(proved::reservoir_fits(&self.words, &self.list))
+    }
+}
+
+/// A side whose memory is its own, by its calls of the same names.
+macro_rules! side {
+    ($side:ty, $fits:ident) => {
+        impl Side for $side {
+            fn memory(&self) -> ([u32; 7], &[u32]) {
+                (with_rest(self.words), &self.list)
+            }
+
+            fn admit(&mut self) -> Told<Exchange> {
+                self.admit()
+            }
+
+            fn grow_layer(&mut self) -> Told<()> {
+                self.grow_layer()
+            }
+
+            fn sample(&self, out: &mut [u32]) -> Told<()> {
+                self.sample(out)
+            }
+
+            fn fits(&self) -> Told<bool> {
+                Ok(self.$fits())
+            }
+        }
+    };
+}
+
+side!(Reservoir, opened);
+side!(Memory, fits);
+
+/// Makes the same calls on both sides, until they differ.
+fn followed(
+    input: &str,
+    ours: &mut impl Side,
+    theirs: &mut impl Side,
+    calls: u64,
+    draws: &mut Draws,
+) -> Option<String> {
+    let mut made = Vec::new();
+    (0..calls).find_map(|_| {
+        let call = Call::any(draws);
+        made.push(call);
+        let (said, expected) = (ours.call(call), theirs.call(call));
+        differ(
+            format_args!("{input}, {made:?}"),
+            (said, ours.memory()),
+            (expected, theirs.memory()),
+        )
+    })
+}
+
+/// Opens on both sides.
+fn opened(k: u32, n: u32, key: u64, ours: &mut Lent, theirs: &mut Reservoir) -> Option<String> {
+    let said = proved::reservoir_new(k, n, key, &mut ours.list, &mut ours.words);
+    let expected = theirs.open(k, n, key);
+    let places = ours.list.len();
+    differ(
+        format_args!("key {key:#x} k {k} n {n}, {places} places"),
+        (told(said), ours.memory()),
+        (expected, theirs.memory()),
+    )
+}
+
+/// Both sides with nothing opened.
+fn lent(places: u64) -> (Lent, Reservoir) {
+    let theirs = Reservoir::lent(places as usize);
+    let ours = Lent {
+        words: with_rest(theirs.words),
+        list: theirs.list.clone(),
+    };
+    (ours, theirs)
+}
+
+/// A reservoir opened with k of n, and calls after that. The list is too short for the opening, just holds it, has some more
+/// places or many.
+pub fn histories(draws: &mut Draws) -> Option<String> {
+    let n = any_n(draws).max(1);
+    let most = match draws.below(64) {
+        0 => 1000,
+        1..16 => 100,
+        _ => 10,
+    };
+    let k = 1 + draws.below(u64::from(n).min(most)) as u32;
+    let key = word(draws);
+    let used = ConsistentReservoir::new(k, n, key).values().len() as u64;
+    let places = match draws.below(8) {
+        0 => draws.below(used),
+        1 => used,
+        2..4 => used + draws.below(u64::from(k) + 2),
+        _ => used + 8 * u64::from(k) + 64,
+    };
+    let (mut ours, mut theirs) = lent(places);
+    opened(k, n, key, &mut ours, &mut theirs).or_else(|| {
+        let input = format!("key {key:#x} k {k} n {n}, {places} places");
+        followed(&input, &mut ours, &mut theirs, draws.below(30), draws)
+    })
+}
+
+/// Openings that document 01 refuses, and a record shorter than its words.
+pub fn refusals(draws: &mut Draws) -> Option<String> {
+    let n = any_n(draws);
+    let (k, n) = match draws.below(3) {
+        0 => (word(draws) as u32, above_limit(draws)),
+        1 => (0, n),
+        _ => (n + 1 + (word(draws) as u32) % LIMIT, n),
+    };
+    let key = word(draws);
+    let (mut ours, mut theirs) = lent(draws.below(8));
+    opened(k, n, key, &mut ours, &mut theirs).or_else(|| {
+        let words = draws.below(6) as usize;
+        let (record, list) = (&mut ours.words[..words], &mut ours.list);
+        let mut out = [UNTOUCHED; 4];
+        let said = [
+            proved::reservoir_new(k, n, key, list, record).err(),
+            proved::reservoir_next(record, list).err(),
+            proved::reservoir_grow_layer(record, list).err(),
+            proved::reservoir_sample(record, list, &mut out).err(),
+            proved::reservoir_fits(record, list).err(),
+        ];
+        differ(
+            format_args!("key {key:#x} k {k} n {n}, {words} words"),
+            (said.map(|c| c.map(|c| c.0)), out, ours.memory()),
+            ([Some(4); 5], [UNTOUCHED; 4], theirs.memory()),
+        )
+    })
+}
+
+/// A listed number of a layer: below n as often as not, at either bound, or any.
+fn listed(draws: &mut Draws, n: u32, size: u32) -> u32 {
+    match draws.below(8) {
+        0 => n.min(size - 1),
+        1 => size - 1,
+        2..4 => draws.below(u64::from(size)) as u32,
+        4 => n - 1,
+        _ => draws.below(u64::from(n)) as u32,
+    }
+}
+
+/// A record made by hand that fits its list, or nearly: any numbers, some of them twice.
+fn fitting(draws: &mut Draws) -> Memory {
+    let j = match draws.below(8) {
+        0 => 14,
+        1 => 13,
+        2 => draws.below(15) as u32,
+        _ => draws.below(3) as u32,
+    };
+    let n = match draws.below(4) {
+        0 => size(j),
+        1 => 1 + draws.below(4) as u32,
+        _ => 1 + draws.below(u64::from(size(j))) as u32,
+    };
+    // Only numbers below n in one of four: a growth comes next.
+    let top = if draws.below(4) == 0 { n } else { size(j) };
+    let used = 1 + draws.below(8) as usize;
+    let mut list: Vec<u32> = (0..used).map(|_| listed(draws, n, top)).collect();
+    list[used - 1] = draws.below(u64::from(n)) as u32;
+    let k = list.iter().filter(|&&x| x < n).count() as u32;
+    let rest = draws.below(2) * draws.below(50) + draws.below(4);
+    list.resize(used + rest as usize, UNTOUCHED);
+    let key = word(draws);
+    Memory {
+        words: [key as u32, (key >> 32) as u32, k, n, j, used as u32],
+        list,
+    }
+}
+
+fn one_of(draws: &mut Draws, some: [u32; 4]) -> u32 {
+    some[draws.below(4) as usize]
+}
+
+/// Spoils one word of the record, one place of the list, or which number is the last.
+fn spoil(memory: &mut Memory, draws: &mut Draws) {
+    let Memory { words, list } = memory;
+    let [_, _, k, n, j, used] = *words;
+    let (places, size) = (list.len() as u32, size(j));
+    let at = draws.below(u64::from(used)) as usize;
+    match draws.below(6) {
+        0 => words[2] = one_of(draws, [0, k + 1, k - 1, n + 1]),
+        1 => words[3] = one_of(draws, [0, n + 1, size + 1, u32::MAX]),
+        2 => words[4] = one_of(draws, [j.wrapping_sub(1), j + 1, 15, u32::MAX]),
+        3 => words[5] = one_of(draws, [used - 1, used + 1, places + 1, u32::MAX]),
+        4 => list[at] = one_of(draws, [n, size, size - 1, u32::MAX]),
+        _ => list.swap(at, used as usize - 1),
+    }
+}
+
+/// Calls on records made by hand, half of them spoilt.
+pub fn handmade(draws: &mut Draws) -> Option<String> {
+    let mut theirs = fitting(draws);
+    if draws.below(2) == 0 {
+        spoil(&mut theirs, draws);
+    }
+    let mut ours = Lent {
+        words: with_rest(theirs.words),
+        list: theirs.list.clone(),
+    };
+    let input = format!("{theirs:?}");
+    followed(&input, &mut ours, &mut theirs, 1 + draws.below(3), draws)
+}
