@@ -17,6 +17,12 @@ use Rattle.orders.specs.ReservoirCalls.{sample, fitting, exchangeBy, exchange, 
 use Rattle.orders.proofs.OrderLaws.{P-order}
 use Rattle.hashes.specs.Hashes.{laterNumbers, numbers, bucketHashes, prev}
 use Rattle.hashes.proofs.PrevLaws.{prev-none, prev-is, prev-small}
+use Rattle.choosers.specs.ChooserCalls.{ascends, tested, countsFrom, shrinkCall}
+use Rattle.choosers.specs.ChooserCalls as choosers
+use Rattle.choosers.specs.Slots.{active, deleted, vacant}
+use Rattle.choosers.specs.SlotCalls.{addCall, removeCall}
+use Rattle.choosers.specs.SlotCalls as slots
+use Rattle.choosers.proofs.SampleLaws.{S-full}
 use Rattle.cases.specs.Table.{Table}
 
 prev-one : (s : ℕ) → prev s 1 ≡ some 0
@@ -37,7 +43,7 @@ P-zero [] o = refl
 P-zero (x ∷ xs) o = absurd (omega (arith, o .size))
 
 pub cases : Table
-unfolding layerOf log2 below admitCall fitting sample every last same exchange exchangeBy incoming notBelow standing written round roundFunction nextKey rotateRight bucketHashes numbers laterNumbers
+unfolding layerOf log2 below admitCall fitting sample every last same exchange exchangeBy incoming notBelow standing written round roundFunction nextKey rotateRight bucketHashes numbers laterNumbers shrinkCall tested choosers.fitting ascends countsFrom addCall removeCall slots.fitting active deleted vacant
 cases = record {
   round-key-0 = refl;
   round-key-2 = refl;
@@ -53,5 +59,11 @@ cases = record {
   prev-of-0 = prev-none;
   prev-of-1 = prev-one;
   bucket-4 = refl;
+  samples-of-3 = λ s. S-full s 3;
+  shrink-of-3 = λ s. refl;
+  count-after-1-2 = λ a b c. refl;
+  join-after-1-2 = λ a b c. refl;
+  count-after-2-1 = λ a b c. refl;
+  join-after-2-1 = λ a b c. refl;
   admit-5 = λ key. refl;
 }

@@ -15,3 +15,9 @@ pub mod Writing
 pub mod Searching
 pub mod Tables
 pub mod Turns
+pub mod Inserting
+pub mod Ascending
+pub mod Listing
+pub mod Finding
+pub mod Ranges
+pub mod Having

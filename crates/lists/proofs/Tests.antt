@@ -2,7 +2,7 @@
 -- Assumes nothing.
 use mathlib.Core.Path.{_≡_, refl, sym, _∙_}
 use mathlib.Core.Logic.{_≢_}
-use mathlib.Core.Bool.{Bool, true, false, true≢false}
+use mathlib.Core.Bool.{Bool, true, false, cond, true≢false}
 use Prim.Native.Nat.{ℕ, _≤_, _<_}
 use native.Mathlib.Omega.{arith}
 use borrow.Author.Tests.{ltb-true, ltb-false, eqb-true, lt-ltb, le-ltb, le-leb, lt-leb, eq-eqb, ne-eqb}
@@ -60,3 +60,8 @@ by-same x v f g = by-test (same v x) (λ y. f (same→eq y)) (λ m. g (λ e. tru
 -- by cases: x is below v, is v, or is above v
 pub by-three : {C : Type 0} (x v : ℕ) → (x < v → C) → (x ≡ v → C) → (v < x → C) → C
 by-three x v f g h = by-below x v f (λ l. by-same x v g (λ d. h (omega arith)))
+
+-- by cases: what holds of both arms of a test, where each may know how it went
+pub by-cond : {A : Type 0} (P : A → Type 0) (b : Bool) (x y : A) → (b ≡ true → P x) → (b ≡ false → P y) → P (cond b x y)
+by-cond P true x y f g = f refl
+by-cond P false x y f g = g refl

@@ -1,13 +1,15 @@
 -- Lists that are written place by place. From the back: at p it is the old list before p and the new one from p on.
 -- Assumes nothing.
-use mathlib.Core.Path.{_≡_, refl, sym, _∙_}
-use mathlib.Core.List.{List, [], _∷_, _++_}
-use Prim.Native.Nat.{ℕ, suc, _+_, _<_, _≤_}
+use mathlib.Core.Path.{_≡_, refl, sym, ap, _∙_}
+use mathlib.Core.Logic.{_≢_}
+use mathlib.Core.List.{List, [], _∷_, _++_, map}
+use Prim.Native.Nat.{ℕ, zero, suc, _+_, _<_, _≤_}
 use native.Mathlib.Numerals.{add-one}
 use native.Mathlib.Omega.{arith}
 use lib.ListN.{length, take, drop, getD, set, length-append, length-take, length-drop, List·getD-append}
-use lib.Seq.{take-suc, drop-cons, set-at, append-snoc, length-take-le, getD-take}
+use lib.Seq.{take-at, take-suc, drop-cons, set-at, append-snoc, length-take-le, getD-take, getD-set-same, getD-set-other}
 use Rattle.lists.specs.Lists.{written}
+use Rattle.lists.proofs.Tests.{by-same}
 
 -- the list that stands once the places from p on are written
 abbrev pub part : List ℕ → List ℕ → ℕ → List ℕ
@@ -50,3 +52,28 @@ sets-behind (x ∷ xs) ys (w ∷ ws) h =
 pub sets-written : (xs ws : List ℕ) → length xs ≤ length ws → sets ws 0 xs ≡ written xs ws
 unfolding written
 sets-written xs ws h = sets-behind xs [] ws h
+
+-- what was written stands there
+pub written-take : (k : ℕ) (xs ws : List ℕ) → length xs ≡ k → take k (written xs ws) ≡ xs
+unfolding written
+written-take k xs ws e = take-at xs (drop (length xs) ws) k e
+
+pub written-at : (i : ℕ) (xs ws : List ℕ) → i < length xs → getD (written xs ws) i 0 ≡ getD xs i 0
+unfolding written
+written-at i xs ws h = List·getD-append xs (drop (length xs) ws) 0 i h
+
+-- ---- one place written
+
+-- the values of the entries
+pub map-set : (f : ℕ → ℕ) (l : List ℕ) (i a : ℕ) → map f (set l i a) ≡ set (map f l) i (f a)
+map-set f [] i a = refl
+map-set f (x ∷ l) zero a = refl
+map-set f (x ∷ l) (suc i) a = ap (λ (r : List ℕ). f x ∷ r) (map-set f l i a)
+
+-- what holds of the other entries and of the new one holds of all
+pub set-holds : (P : ℕ → ℕ → Type 0) (l : List ℕ) (k i a : ℕ) → i < length l → P i a
+    → ((j : ℕ) → j < k → j ≢ i → P j (getD l j 0)) → (j : ℕ) → j < k → P j (getD (set l i a) j 0)
+set-holds P l k i a f new old j h =
+    by-same j i
+    (λ q. rw (q, getD-set-same l i a 0 f) new)
+    (λ q. rw (getD-set-other l i j a 0 q) (old j h q))

@@ -2,7 +2,7 @@
 -- Assumes nothing.
 use mathlib.Core.Bool.{Bool, true, false, cond, _&&_, not}
 use mathlib.Core.List.{List, [], _∷_, _++_}
-use mathlib.Core.Option.{Option, none, some}
+use mathlib.Core.Option.{Option, none, some, Option·getD}
 use Prim.Native.Nat.{ℕ, zero, suc, _-_, max, min}
 use lib.ListN.{length, drop, getD}
 use lib.Dec.{ltb, leb, eqb}
@@ -124,3 +124,14 @@ firstFrom p n zero = none
 firstFrom p n (suc c) =
     let later = firstFrom p (suc n) c in
     cond (p n) (some n) later
+
+-- the first entry that passes, none where none does
+abbrev pub find : (ℕ → Bool) → List ℕ → Option ℕ
+find p [] = none
+find p (x ∷ xs) =
+    let later = find p xs in
+    cond (p x) (some x) later
+
+-- the first entry of xs that ys lacks, 0 where it lacks none
+unfoldable pub lacked : List ℕ → List ℕ → ℕ
+lacked xs ys = Option·getD (find (λ x. not (has x ys)) xs) 0
