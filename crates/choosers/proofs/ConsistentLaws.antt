@@ -28,7 +28,7 @@ use Rattle.choosers.proofs.PlaceLaws.{new, new-lt, new-fresh, new-lacke
 use Rattle.choosers.proofs.CheckLaws.{Parts, fits-parts}
 use Rattle.choosers.proofs.CountLaws.{counts-yes}
 
-or-false : (a b : Bool) → (a || b) ≡ false → (a ≡ false) × (b ≡ false)
+pub or-false : (a b : Bool) → (a || b) ≡ false → (a ≡ false) × (b ≡ false)
 or-false true b e = absurd (true≢false e)
 or-false false b e = (refl, e)
 
@@ -53,7 +53,7 @@ module _ (c : ConsistentChooseKHasher) (l : List ℕ) where
     number = λ h x e. let z : _≡_ {A = ℕ} 0 1 = cc in absurd (omega arith);
   }
 
-  tested-keeps : {A : Type 0} (P : After A → Type 0) (a : After A) → ((w : ℕ) → P (refused w c l)) → (Parts c l → P a) → P (tested c l a)
+  pub tested-keeps : {A : Type 0} (P : After A → Type 0) (a : After A) → ((w : ℕ) → P (refused w c l)) → (Parts c l → P a) → P (tested c l a)
   unfolding tested
   tested-keeps P a r f =
       by-cond P (fitting c l) _ _

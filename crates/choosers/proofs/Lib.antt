@@ -10,6 +10,8 @@ pub mod CountLaws
 pub mod ChooserCallLaws
 pub mod ConsistentLaws
 pub mod ChooserWalkLaws
+pub mod StepLaws
+pub mod FitLaws
 pub mod LookupLaws
 pub mod LookLaws
 pub mod TableLaws
@@ -19,3 +21,4 @@ pub mod ActiveLaws
 pub mod AddLaws
 pub mod RemoveLaws
 pub mod GetLaws
+pub mod Examples

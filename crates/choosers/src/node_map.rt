@@ -230,10 +230,11 @@ impl ConsistentNodeMap {
         if !self.fits(table) {
             return Slot::Refused(12);
         }
-        if scratch.len() < tables::places(table.len()) {
+        let c = self.total;
+        let bytes = table.len();
+        if scratch.len() < tables::places(bytes) {
             return Slot::Refused(4);
         }
-        let c = self.total;
         if !tables::any(table, c as usize) {
             return Slot::Refused(11);
         }

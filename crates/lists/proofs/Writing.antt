@@ -77,3 +77,7 @@ set-holds P l k i a f new old j h =
     by-same j i
     (λ q. rw (q, getD-set-same l i a 0 f) new)
     (λ q. rw (getD-set-other l i j a 0 q) (old j h q))
+
+pub length-written : (xs ws : List ℕ) → length xs ≤ length ws → length (written xs ws) ≡ length ws
+unfolding written
+length-written xs ws h = simp (length-append, length-drop) (omega arith)
