@@ -1,8 +1,10 @@
 //! Times the proved library beside the original: the same inputs, one run, the lowest of several measurements of each.
 
+mod choosers;
 mod hashes;
 mod orders;
 mod reservoirs;
+mod slots;
 
 use std::hint::black_box;
 use std::time::Instant;
@@ -108,4 +110,6 @@ fn main() {
     hashes::all();
     orders::all();
     reservoirs::all();
+    choosers::all();
+    slots::all();
 }

@@ -63,7 +63,6 @@ pub fn order_next(words: &mut [u32; 18]) -> Told<Option<u32>> {
 }
 
 /// A reservoir's six words and its list.
-#[derive(Debug)]
 pub struct Memory {
     pub words: [u32; 6],
     pub list: Vec<u32>,

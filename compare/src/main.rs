@@ -1,11 +1,17 @@
 //! The proved library against the original on random and boundary inputs, and against document 01's steps on memory made by
 //! hand. compare [N]: N million inputs (default 1). Prints the first difference with its input, and ends with status 1.
 
+mod choosers;
 mod document;
+mod document_choosers;
+mod document_slots;
 mod hashes;
 mod layers;
+mod lookups;
 mod orders;
 mod reservoirs;
+mod sides;
+mod slots;
 mod words;
 
 use std::fmt::{Debug, Display};
@@ -17,29 +23,38 @@ use proved::Refused;
 type Trial = fn(&mut Draws) -> Option<String>;
 
 /// A call, how many of 100 inputs go to it, and the trial.
-const CALLS: [(&str, u64, Trial); 22] = [
-    ("wrapping_mul", 3, words::wrapping_mul),
-    ("rotate_right", 3, words::rotate_right),
-    ("splitmix64", 3, words::splitmix64),
-    ("layer_apply", 10, layers::layer_apply),
-    ("KeyedLayer, over 0..n", 3, layers::layer_xors),
-    ("layer_apply, refusals", 4, layers::refusals),
-    ("seq_builder", 3, hashes::seq_builder),
-    ("prev", 11, hashes::prev),
-    ("into_prev", 3, hashes::into_prev),
-    ("next", 11, hashes::next),
+const CALLS: [(&str, u64, Trial); 31] = [
+    ("wrapping_mul", 2, words::wrapping_mul),
+    ("rotate_right", 2, words::rotate_right),
+    ("splitmix64", 2, words::splitmix64),
+    ("layer_apply", 7, layers::layer_apply),
+    ("KeyedLayer, over 0..n", 2, layers::layer_xors),
+    ("layer_apply, refusals", 2, layers::refusals),
+    ("seq_builder", 2, hashes::seq_builder),
+    ("prev", 8, hashes::prev),
+    ("into_prev", 2, hashes::into_prev),
+    ("next", 8, hashes::next),
     ("falling walk, step by step", 2, hashes::falling_steps),
     ("rising walk, step by step", 2, hashes::rising_steps),
-    ("falling walk, digested", 2, hashes::falling_digest),
-    ("rising walk, digested", 2, hashes::rising_digest),
-    ("hashes, refusals", 3, hashes::refusals),
-    ("orders, step by step", 10, orders::steps),
-    ("orders, digested", 3, orders::digest),
-    ("orders made by hand", 5, orders::handmade),
+    ("falling walk, digested", 1, hashes::falling_digest),
+    ("rising walk, digested", 1, hashes::rising_digest),
+    ("hashes, refusals", 2, hashes::refusals),
+    ("orders, step by step", 8, orders::steps),
+    ("orders, digested", 2, orders::digest),
+    ("orders made by hand", 4, orders::handmade),
     ("orders, refusals", 1, orders::refusals),
-    ("reservoirs, opened and followed", 10, reservoirs::histories),
-    ("reservoirs made by hand", 5, reservoirs::handmade),
+    ("reservoirs, opened and followed", 6, reservoirs::histories),
+    ("reservoirs made by hand", 4, reservoirs::handmade),
     ("reservoirs, refusals", 1, reservoirs::refusals),
+    ("choosers, made and followed", 7, choosers::histories),
+    ("new_with_k, by S(k, n)", 2, choosers::samples),
+    ("choosers made by hand", 4, choosers::handmade),
+    ("choosers, refusals", 1, choosers::refusals),
+    ("slots, one deleted at most", 3, slots::single),
+    ("slots made by hand", 4, slots::handmade),
+    ("get and first_active", 5, lookups::deleted),
+    ("the same in slots made by hand", 2, lookups::handmade),
+    ("location_state", 1, lookups::location_state),
 ];
 
 fn main() {

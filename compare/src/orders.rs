@@ -4,6 +4,7 @@ use oracle::{Draws, Order, UNTOUCHED};
 use proved::Refused;
 
 use crate::document::{order_next, size};
+use crate::sides::with_rest;
 use crate::{differ, told, word};
 
 /// The largest n.
@@ -24,13 +25,6 @@ pub fn above_limit(draws: &mut Draws) -> u32 {
     (word(draws) as u32).max(LIMIT + 1 + draws.below(2) as u32)
 }
 
-/// A record in memory that has two words more.
-fn with_rest(words: [u32; 18]) -> [u32; 20] {
-    let mut all = [UNTOUCHED; 20];
-    all[..18].copy_from_slice(&words);
-    all
-}
-
 /// Follows an order by its record: to its end and two calls more where it is short, else its first numbers.
 pub fn steps(draws: &mut Draws) -> Option<String> {
     let (n, key) = (any_n(draws), word(draws));
@@ -45,7 +39,7 @@ pub fn steps(draws: &mut Draws) -> Option<String> {
     differ(
         format_args!("n {n} key {key:#x}, new"),
         (said, ours),
-        (Ok(()), with_rest(theirs.words())),
+        (Ok(()), with_rest(theirs.words(), UNTOUCHED)),
     )
     .or_else(|| {
         (0..calls).find_map(|call| {
@@ -54,7 +48,7 @@ pub fn steps(draws: &mut Draws) -> Option<String> {
             differ(
                 format_args!("n {n} key {key:#x}, call {call}"),
                 (said, ours),
-                (Ok(found), with_rest(theirs.words())),
+                (Ok(found), with_rest(theirs.words(), UNTOUCHED)),
             )
         })
     })
@@ -93,13 +87,14 @@ pub fn handmade(draws: &mut Draws) -> Option<String> {
     let mut before = [key as u32, (key >> 32) as u32, n].to_vec();
     before.extend((0..15).map(|j| counter(draws, j)));
     let mut theirs: [u32; 18] = before[..].try_into().unwrap();
-    let mut ours = with_rest(theirs);
+    // Two words more than the record has.
+    let mut ours: [u32; 20] = with_rest(theirs, UNTOUCHED);
     let said = told(proved::order_next(&mut ours));
     let expected = order_next(&mut theirs);
     differ(
         format_args!("{before:?}"),
         (said, ours),
-        (expected, with_rest(theirs)),
+        (expected, with_rest(theirs, UNTOUCHED)),
     )
 }
 

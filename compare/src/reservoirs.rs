@@ -4,10 +4,16 @@ use oracle::{ConsistentReservoir, Draws, Reservoir, Told, UNTOUCHED};
 
 use crate::document::{size, Memory};
 use crate::orders::{above_limit, any_n, LIMIT};
+use crate::sides::{self, followed, followed_on, with_rest, Side};
 use crate::{differ, told, word};
+
+type Lent = sides::Lent<Call>;
 
 /// The number that an admit brings in and the one that it puts out.
 type Exchange = Option<(u32, u32)>;
+
+/// What a call says, and the list of a sample after it.
+type Said = (Told<Exchange>, Vec<u32>);
 
 /// A call on a reservoir. A sample is asked for in a list of so many places.
 #[derive(Clone, Copy, Debug)]
@@ -29,124 +35,77 @@ impl Call {
             _ => Call::Admit,
         }
     }
-}
 
-/// A reservoir in its memory: the library's, the original's, or document 01's.
-trait Side {
-    /// The record's words, with one more behind them, and the list.
-    fn memory(&self) -> ([u32; 7], &[u32]);
-    fn admit(&mut self) -> Told<Exchange>;
-    fn grow_layer(&mut self) -> Told<()>;
-    fn sample(&self, out: &mut [u32]) -> Told<()>;
-    fn fits(&self) -> Told<bool>;
-
-    /// What a call says, and the list of a sample after it.
-    fn call(&mut self, call: Call) -> (Told<Exchange>, Vec<u32>) {
+    /// What it says, by a side's own calls.
+    fn said<M>(
+        self,
+        memory: &mut M,
+        admit: fn(&mut M) -> Told<Exchange>,
+        grow_layer: fn(&mut M) -> Told<()>,
+        sample: fn(&M, &mut [u32]) -> Told<()>,
+        fits: fn(&M) -> Told<bool>,
+    ) -> Said {
         let mut out = Vec::new();
-        let said = match call {
-            Call::Admit => self.admit(),
-            Call::GrowLayer => self.grow_layer().map(|()| None),
+        let said = match self {
+            Call::Admit => admit(memory),
+            Call::GrowLayer => grow_layer(memory).map(|()| None),
             Call::Sample(places) => {
                 out.resize(places as usize, UNTOUCHED);
-                self.sample(&mut out).map(|()| None)
+                sample(memory, &mut out).map(|()| None)
             }
-            Call::Fits => self.fits().map(|yes| yes.then_some((0, 0))),
+            Call::Fits => fits(memory).map(|yes| yes.then_some((0, 0))),
         };
         (said, out)
     }
 }
 
-fn with_rest(words: [u32; 6]) -> [u32; 7] {
-    let mut all = [UNTOUCHED; 7];
-    all[..6].copy_from_slice(&words);
-    all
-}
+impl sides::Call for Call {
+    /// The words, with one more behind them.
+    type Record = [u32; 7];
+    type Place = u32;
+    type Said = Said;
 
-/// The memory that the library is lent.
-struct Lent {
-    words: [u32; 7],
-    list: Vec<u32>,
-}
-
-impl Side for Lent {
-    fn memory(&self) -> ([u32; 7], &[u32]) {
-        (self.words, &self.list)
-    }
-
-    fn admit(&mut self) -> Told<Exchange> {
-        told(proved::reservoir_next(&mut self.words, &mut self.list))
-    }
-
-    fn grow_layer(&mut self) -> Told<()> {
-        told(proved::reservoir_grow_layer(
-            &mut self.words,
-            &mut self.list,
-        ))
-    }
-
-    fn sample(&self, out: &mut [u32]) -> Told<()> {
-        told(proved::reservoir_sample(&self.words, &self.list, out))
-    }
-
-    fn fits(&self) -> Told<bool> {
-        told(proved::reservoir_fits(&self.words, &self.list))
-    }
-}
-
-/// A side whose memory is its own, by its calls of the same names.
-macro_rules! side {
-    ($side:ty, $fits:ident) => {
-        impl Side for $side {
-            fn memory(&self) -> ([u32; 7], &[u32]) {
-                (with_rest(self.words), &self.list)
-            }
-
-            fn admit(&mut self) -> Told<Exchange> {
-                self.admit()
-            }
-
-            fn grow_layer(&mut self) -> Told<()> {
-                self.grow_layer()
-            }
-
-            fn sample(&self, out: &mut [u32]) -> Told<()> {
-                self.sample(out)
-            }
-
-            fn fits(&self) -> Told<bool> {
-                Ok(self.$fits())
-            }
-        }
-    };
-}
-
-side!(Reservoir, opened);
-side!(Memory, fits);
-
-/// Makes the same calls on both sides, until they differ.
-fn followed(
-    input: &str,
-    ours: &mut impl Side,
-    theirs: &mut impl Side,
-    calls: u64,
-    draws: &mut Draws,
-) -> Option<String> {
-    let mut made = Vec::new();
-    (0..calls).find_map(|_| {
-        let call = Call::any(draws);
-        made.push(call);
-        let (said, expected) = (ours.call(call), theirs.call(call));
-        differ(
-            format_args!("{input}, {made:?}"),
-            (said, ours.memory()),
-            (expected, theirs.memory()),
+    fn proved(self, lent: &mut Lent) -> Said {
+        self.said(
+            lent,
+            |lent| told(proved::reservoir_next(&mut lent.record, &mut lent.list)),
+            |lent| {
+                told(proved::reservoir_grow_layer(
+                    &mut lent.record,
+                    &mut lent.list,
+                ))
+            },
+            |lent, out| told(proved::reservoir_sample(&lent.record, &lent.list, out)),
+            |lent| told(proved::reservoir_fits(&lent.record, &lent.list)),
         )
-    })
+    }
+}
+
+impl Side<Call> for Reservoir {
+    fn memory(&self) -> ([u32; 7], &[u32]) {
+        (with_rest(self.words, UNTOUCHED), &self.list)
+    }
+
+    fn call(&mut self, call: Call) -> Said {
+        let fits = |side: &Self| Ok(side.opened());
+        call.said(self, Self::admit, Self::grow_layer, Self::sample, fits)
+    }
+}
+
+impl Side<Call> for Memory {
+    fn memory(&self) -> ([u32; 7], &[u32]) {
+        (with_rest(self.words, UNTOUCHED), &self.list)
+    }
+
+    fn call(&mut self, call: Call) -> Said {
+        let fits = |side: &Self| Ok(side.fits());
+        call.said(self, Self::admit, Self::grow_layer, Self::sample, fits)
+    }
 }
 
 /// Opens on both sides.
 fn opened(k: u32, n: u32, key: u64, ours: &mut Lent, theirs: &mut Reservoir) -> Option<String> {
-    let said = proved::reservoir_new(k, n, key, &mut ours.list, &mut ours.words);
+    let said = proved::reservoir_new(k, n, key, &mut ours.list, &mut ours.record);
     let expected = theirs.open(k, n, key);
     let places = ours.list.len();
     differ(
@@ -159,11 +118,7 @@ fn opened(k: u32, n: u32, key: u64, ours: &mut Lent, theirs: &mut Reservoir) -> 
 /// Both sides with nothing opened.
 fn lent(places: u64) -> (Lent, Reservoir) {
     let theirs = Reservoir::lent(places as usize);
-    let ours = Lent {
-        words: with_rest(theirs.words),
-        list: theirs.list.clone(),
-    };
-    (ours, theirs)
+    (Lent::like(&theirs), theirs)
 }
 
 /// A reservoir opened with k of n, and calls after that. The list is too short for the opening, just holds it, has some more
@@ -186,8 +141,13 @@ pub fn histories(draws: &mut Draws) -> Option<String> {
     };
     let (mut ours, mut theirs) = lent(places);
     opened(k, n, key, &mut ours, &mut theirs).or_else(|| {
-        let input = format!("key {key:#x} k {k} n {n}, {places} places");
-        followed(&input, &mut ours, &mut theirs, draws.below(30), draws)
+        followed(
+            format_args!("key {key:#x} k {k} n {n}, {places} places"),
+            &mut ours,
+            &mut theirs,
+            draws.below(30),
+            |_| Call::any(draws),
+        )
     })
 }
 
@@ -203,7 +163,7 @@ pub fn refusals(draws: &mut Draws) -> Option<String> {
     let (mut ours, mut theirs) = lent(draws.below(8));
     opened(k, n, key, &mut ours, &mut theirs).or_else(|| {
         let words = draws.below(6) as usize;
-        let (record, list) = (&mut ours.words[..words], &mut ours.list);
+        let (record, list) = (&mut ours.record[..words], &mut ours.list);
         let mut out = [UNTOUCHED; 4];
         let said = [
             proved::reservoir_new(k, n, key, list, record).err(),
@@ -285,10 +245,5 @@ pub fn handmade(draws: &mut Draws) -> Option<String> {
     if draws.below(2) == 0 {
         spoil(&mut theirs, draws);
     }
-    let mut ours = Lent {
-        words: with_rest(theirs.words),
-        list: theirs.list.clone(),
-    };
-    let input = format!("{theirs:?}");
-    followed(&input, &mut ours, &mut theirs, 1 + draws.below(3), draws)
+    followed_on(&mut theirs, 1 + draws.below(3), |_| Call::any(draws))
 }

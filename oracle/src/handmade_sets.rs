@@ -3,7 +3,8 @@
 
 use oracle::UNTOUCHED;
 
-use crate::{coded, NONE};
+use crate::handmade::{self, changed, kept, numbers, refused};
+use crate::{coded, spelt, NONE};
 
 /// The largest n.
 const LIMIT: u32 = 1 << 30;
@@ -11,56 +12,7 @@ const LIMIT: u32 = 1 << 30;
 /// A place or word that no call has written to.
 const NO: u32 = UNTOUCHED;
 
-/// Lent memory: a record's words, and a list.
-#[derive(Clone)]
-struct Memory {
-    words: Vec<u32>,
-    list: Vec<u32>,
-}
-
-impl Memory {
-    fn untouched(words: usize, places: usize) -> Self {
-        Self {
-            words: vec![NO; words],
-            list: vec![NO; places],
-        }
-    }
-
-    fn numbers(&self) -> Vec<u64> {
-        numbers(&[&self.words[..], &self.list].concat())
-    }
-}
-
-fn numbers(words: &[u32]) -> Vec<u64> {
-    words.iter().map(|&x| x.into()).collect()
-}
-
-/// Numbers of a line.
-fn spelt(numbers: &[u64]) -> String {
-    numbers.iter().map(|x| format!(" {x:x}")).collect()
-}
-
-/// A call that leaves another memory behind.
-fn changed(letter: char, before: &Memory, taken: &[u64], answer: u64, after: &Memory) -> String {
-    let lent = [before.words.len() as u64, before.list.len() as u64];
-    let parts = [
-        &lent[..],
-        &before.numbers(),
-        taken,
-        &[answer],
-        &after.numbers(),
-    ];
-    letter.to_string() + &spelt(&parts.concat())
-}
-
-/// A call that leaves all as it was.
-fn kept(letter: char, memory: &Memory, taken: &[u64], answer: u64) -> String {
-    changed(letter, memory, taken, answer, memory)
-}
-
-fn refused(letter: char, memory: &Memory, taken: &[u64], c: u32) -> String {
-    kept(letter, memory, taken, coded(Err(c)))
-}
+type Memory = handmade::Memory<u32>;
 
 /// An order's record under key 0 with these counters, the others 0.
 fn order(n: u32, counters: &[u32]) -> Memory {

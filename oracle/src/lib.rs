@@ -4,12 +4,15 @@
 
 include!(concat!(env!("OUT_DIR"), "/original.rs"));
 
+mod choosers;
 mod hashes;
 mod orders;
 mod reservoirs;
+mod slots;
 mod stand_in;
 
 pub use choose_k::ConsistentChooseKHasher;
+pub use choosers::{Chooser, UNTOUCHED_WIDE};
 pub use consistent_hash::{
     ConsistentHashIterator, ConsistentHashRevIterator, ConsistentHasher, HashSeqBuilder,
     HashSequence, ManySeqBuilder,
@@ -19,6 +22,7 @@ pub use consistent_reservoir::ConsistentReservoir;
 pub use hashes::{falling_digest, into_prev, next, prev, rising_digest, seq_builder};
 pub use orders::{order_digest, Order};
 pub use reservoirs::{Reservoir, Told, UNTOUCHED};
+pub use slots::{location_state, Slots, UNTOUCHED_BYTE};
 pub use stand_in::{digest, Draws, StandIn};
 
 /// The original's `layer_apply`, which is not public there, by layer instead of bits.

@@ -2,10 +2,15 @@
 //!
 //! oracle SET: the answers of that set. oracle expected: what the replay of all sets prints.
 
+mod chooser_sets;
+mod handmade;
+mod handmade_choosers;
 mod handmade_sets;
+mod handmade_slots;
 mod hash_sets;
 mod order_sets;
 mod reservoir_sets;
+mod slot_sets;
 
 use oracle::{layer_apply, splitmix64, Draws, Told};
 
@@ -21,6 +26,16 @@ fn coded(said: Told<Option<u64>>) -> u64 {
         Ok(number) => number.unwrap_or(NONE),
         Err(c) => NONE + u64::from(c),
     }
+}
+
+/// What a call with no number to say says, as they give it.
+fn done(said: Told<()>) -> u64 {
+    coded(said.map(|()| Some(0)))
+}
+
+/// Numbers of a line.
+fn spelt(numbers: &[u64]) -> String {
+    numbers.iter().map(|x| format!(" {x:x}")).collect()
 }
 
 /// Those keys and some more.
@@ -100,13 +115,28 @@ fn refusals() -> Vec<String> {
 /// A set's name, where its answers are from, and its lines.
 type Set = (&'static str, &'static str, fn() -> Vec<String>);
 
+/// How the lines of a set read, to stand at the head of its file; nothing where its module has no such text.
+fn how(name: &str) -> &'static str {
+    match name {
+        "choosers" => chooser_sets::HOW,
+        "slots" => slot_sets::HOW,
+        "handmade_choosers" => handmade_choosers::HOW,
+        "handmade_slots" => handmade_slots::HOW,
+        _ => "",
+    }
+}
+
 const ORIGINAL: &str = "consistent-choose-k of github/rust-gems 9804c5bc17, built in release";
 
 const ORIGINAL_IN_LISTS: &str =
     "consistent-choose-k of github/rust-gems 9804c5bc17, built in release; \
     refusal 4 is document 01's, for a list shorter than what the original ends with";
 
-const SETS: [Set; 7] = [
+const ORIGINAL_IN_TABLES: &str =
+    "consistent-choose-k of github/rust-gems 9804c5bc17, built in release; \
+    refusals and the table's bytes are document 01's";
+
+const SETS: [Set; 11] = [
     ("mix", ORIGINAL, mix),
     ("layers", ORIGINAL, layers),
     ("hashes", ORIGINAL, hash_sets::hashes),
@@ -121,6 +151,18 @@ const SETS: [Set; 7] = [
         "handmade",
         "document 01, since the original keeps its memory to itself",
         handmade_sets::handmade,
+    ),
+    ("choosers", ORIGINAL_IN_LISTS, chooser_sets::choosers),
+    ("slots", ORIGINAL_IN_TABLES, slot_sets::slots),
+    (
+        "handmade_choosers",
+        "document 01, since the original keeps its memory to itself",
+        handmade_choosers::handmade,
+    ),
+    (
+        "handmade_slots",
+        "document 01, since the original has no table and takes any deleted slot",
+        handmade_slots::handmade,
     ),
 ];
 
@@ -138,5 +180,6 @@ fn main() {
         std::process::exit(2);
     };
     println!("# {name}: made by oracle/make. Answers of {from}.");
+    how(name).lines().for_each(|line| println!("# {line}"));
     lines().iter().for_each(|line| println!("{line}"));
 }

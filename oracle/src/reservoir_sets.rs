@@ -2,7 +2,7 @@
 
 use oracle::{digest, Draws, Reservoir, Told};
 
-use crate::{coded, keys};
+use crate::{coded, done, keys};
 
 /// The longest list that the replay lends.
 const PLACES: usize = 256;
@@ -63,11 +63,6 @@ impl History {
         let longest = self.longest();
         [self.line(longest), self.line(longest - 1)]
     }
-}
-
-/// What a call with no number to say says, as the C functions give it.
-fn done(said: Told<()>) -> u64 {
-    coded(said.map(|()| Some(0)))
 }
 
 /// What an admit says: in * 2^32 + out.

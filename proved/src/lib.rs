@@ -53,6 +53,63 @@ extern "C" {
         list: *const u32,
         places: usize,
     ) -> u64;
+    fn perillajamb_chooser_new(state: u64, n: u64, record: *mut u64, words: usize) -> u64;
+    fn perillajamb_chooser_new_with_k(
+        state: u64,
+        n: u64,
+        k: u64,
+        list: *mut u64,
+        places: usize,
+        record: *mut u64,
+        words: usize,
+    ) -> u64;
+    fn perillajamb_chooser_grow_k(
+        record: *mut u64,
+        words: usize,
+        list: *mut u64,
+        places: usize,
+    ) -> u64;
+    fn perillajamb_chooser_next(
+        record: *mut u64,
+        words: usize,
+        list: *mut u64,
+        places: usize,
+    ) -> u64;
+    fn perillajamb_chooser_shrink_n(
+        record: *mut u64,
+        words: usize,
+        list: *mut u64,
+        places: usize,
+    ) -> u64;
+    fn perillajamb_chooser_fits(
+        record: *const u64,
+        words: usize,
+        list: *const u64,
+        places: usize,
+    ) -> u64;
+    fn perillajamb_slots_add(total: u32, table: *mut u8, bytes: usize) -> u64;
+    fn perillajamb_slots_remove(total: u32, table: *mut u8, bytes: usize, slot: u32) -> u64;
+    fn perillajamb_slots_len(total: u32, table: *const u8, bytes: usize) -> u64;
+    fn perillajamb_slots_is_empty(total: u32, table: *const u8, bytes: usize) -> u64;
+    fn perillajamb_slots_is_active(total: u32, table: *const u8, bytes: usize, slot: u32) -> u64;
+    fn perillajamb_slots_fits(total: u32, table: *const u8, bytes: usize) -> u64;
+    fn perillajamb_slots_get(
+        total: u32,
+        table: *const u8,
+        bytes: usize,
+        state: u64,
+        scratch: *mut u64,
+        places: usize,
+    ) -> u64;
+    fn perillajamb_first_active(
+        total: u32,
+        table: *const u8,
+        bytes: usize,
+        state: u64,
+        scratch: *mut u64,
+        places: usize,
+    ) -> u64;
+    fn perillajamb_location_state(key: u64, location: u32) -> u64;
 }
 
 /// A refusal, by document 01's number.
@@ -91,6 +148,20 @@ fn decoded_number(answer: u64) -> Result<u64, Refused> {
 #[inline]
 fn decoded_done(answer: u64) -> Result<(), Refused> {
     decoded_number(answer).map(|number| assert_eq!(number, 0))
+}
+
+/// Yes or no comes as 1 or 0.
+#[inline]
+fn decoded_truth(answer: u64) -> Result<bool, Refused> {
+    let yes = decoded_number(answer)?;
+    assert!(yes <= 1);
+    Ok(yes == 1)
+}
+
+/// A count or a slot is below 2^32.
+#[inline]
+fn decoded_slot(answer: u64) -> Result<u32, Refused> {
+    Ok(u32::try_from(decoded_number(answer)?).unwrap())
 }
 
 pub fn wrapping_mul(a: u64, b: u64) -> u64 {
@@ -247,7 +318,154 @@ pub fn reservoir_fits(record: &[u32], list: &[u32]) -> Result<bool, Refused> {
     let answer = unsafe {
         perillajamb_reservoir_fits(record.as_ptr(), record.len(), list.as_ptr(), list.len())
     };
-    let yes = decoded_number(answer)?;
-    assert!(yes <= 1);
-    Ok(yes == 1)
+    decoded_truth(answer)
+}
+
+/// A new chooser in the first three words lent: the state, n, and k, which is 0.
+pub fn chooser_new(state: u64, n: u64, record: &mut [u64]) -> Result<(), Refused> {
+    let answer = unsafe { perillajamb_chooser_new(state, n, record.as_mut_ptr(), record.len()) };
+    decoded_done(answer)
+}
+
+/// A new chooser with k samples, which come into the first k places of a list.
+#[inline]
+pub fn chooser_new_with_k(
+    state: u64,
+    n: u64,
+    k: u64,
+    list: &mut [u64],
+    record: &mut [u64],
+) -> Result<(), Refused> {
+    let answer = unsafe {
+        perillajamb_chooser_new_with_k(
+            state,
+            n,
+            k,
+            list.as_mut_ptr(),
+            list.len(),
+            record.as_mut_ptr(),
+            record.len(),
+        )
+    };
+    decoded_done(answer)
+}
+
+/// The index of the sample that comes in.
+pub fn chooser_grow_k(record: &mut [u64], list: &mut [u64]) -> Result<u64, Refused> {
+    let answer = unsafe {
+        perillajamb_chooser_grow_k(
+            record.as_mut_ptr(),
+            record.len(),
+            list.as_mut_ptr(),
+            list.len(),
+        )
+    };
+    decoded_number(answer)
+}
+
+/// The sample that comes in, or none.
+pub fn chooser_next(record: &mut [u64], list: &mut [u64]) -> Result<Option<u64>, Refused> {
+    let answer = unsafe {
+        perillajamb_chooser_next(
+            record.as_mut_ptr(),
+            record.len(),
+            list.as_mut_ptr(),
+            list.len(),
+        )
+    };
+    decoded_found(answer)
+}
+
+/// The index of the sample that comes in.
+pub fn chooser_shrink_n(record: &mut [u64], list: &mut [u64]) -> Result<u64, Refused> {
+    let answer = unsafe {
+        perillajamb_chooser_shrink_n(
+            record.as_mut_ptr(),
+            record.len(),
+            list.as_mut_ptr(),
+            list.len(),
+        )
+    };
+    decoded_number(answer)
+}
+
+/// Whether a record fits its list: refusal 12's test, as 1 or 0.
+pub fn chooser_fits(record: &[u64], list: &[u64]) -> Result<bool, Refused> {
+    let answer = unsafe {
+        perillajamb_chooser_fits(record.as_ptr(), record.len(), list.as_ptr(), list.len())
+    };
+    decoded_truth(answer)
+}
+
+/// The count after it and the slot. They come as count * 2^32 + slot.
+pub fn slots_add(total: u32, table: &mut [u8]) -> Result<(u32, u32), Refused> {
+    let answer = unsafe { perillajamb_slots_add(total, table.as_mut_ptr(), table.len()) };
+    decoded_number(answer).map(|pair| ((pair >> 32) as u32, pair as u32))
+}
+
+/// The count after it.
+pub fn slots_remove(total: u32, table: &mut [u8], slot: u32) -> Result<u32, Refused> {
+    let answer = unsafe { perillajamb_slots_remove(total, table.as_mut_ptr(), table.len(), slot) };
+    decoded_slot(answer)
+}
+
+/// How many slots are active.
+pub fn slots_len(total: u32, table: &[u8]) -> Result<u32, Refused> {
+    decoded_slot(unsafe { perillajamb_slots_len(total, table.as_ptr(), table.len()) })
+}
+
+pub fn slots_is_empty(total: u32, table: &[u8]) -> Result<bool, Refused> {
+    decoded_truth(unsafe { perillajamb_slots_is_empty(total, table.as_ptr(), table.len()) })
+}
+
+pub fn slots_is_active(total: u32, table: &[u8], slot: u32) -> Result<bool, Refused> {
+    decoded_truth(unsafe { perillajamb_slots_is_active(total, table.as_ptr(), table.len(), slot) })
+}
+
+/// Whether a count fits its table: refusal 12's test, as 1 or 0.
+pub fn slots_fits(total: u32, table: &[u8]) -> Result<bool, Refused> {
+    decoded_truth(unsafe { perillajamb_slots_fits(total, table.as_ptr(), table.len()) })
+}
+
+/// The slot of a state. The scratch is free after it.
+#[inline]
+pub fn slots_get(
+    total: u32,
+    table: &[u8],
+    state: u64,
+    scratch: &mut [u64],
+) -> Result<u32, Refused> {
+    let answer = unsafe {
+        perillajamb_slots_get(
+            total,
+            table.as_ptr(),
+            table.len(),
+            state,
+            scratch.as_mut_ptr(),
+            scratch.len(),
+        )
+    };
+    decoded_slot(answer)
+}
+
+/// The same without the record's tests: the first active slot among as many of the choice order as the scratch has places.
+#[inline]
+pub fn first_active(total: u32, table: &[u8], state: u64, scratch: &mut [u64]) -> Option<u32> {
+    let answer = unsafe {
+        perillajamb_first_active(
+            total,
+            table.as_ptr(),
+            table.len(),
+            state,
+            scratch.as_mut_ptr(),
+            scratch.len(),
+        )
+    };
+    let found = decoded_found(answer).expect("a slot or missing, no refusal");
+    found.map(|slot| u32::try_from(slot).unwrap())
+}
+
+/// The state of a location under a key.
+pub fn location_state(key: u64, location: u32) -> u64 {
+    unsafe { perillajamb_location_state(key, location) }
 }

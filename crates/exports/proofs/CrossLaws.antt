@@ -1,11 +1,10 @@
 -- What the calls on reservoirs leave, in the terms of their code.
 -- Assumes nothing.
 use mathlib.Core.Path.{_≡_, sym, ap, _∙_}
-use mathlib.Core.Bool.{Bool, cond}
+use mathlib.Core.Bool.{Bool}
 use mathlib.Core.List.{List}
 use Prim.Native.Nat.{ℕ, _+_, _*_, _^_, _≤_, _<_}
 use borrow.Author.Tests.{lt-ltb, le-ltb}
-use lib.Dec.{ltb}
 use lib.ListN.{length}
 use Rattle.lists.specs.Lists.{written}
 use Rattle.orders.specs.declared.Outcome.{Outcome}
@@ -18,8 +17,9 @@ use Rattle.orders.specs.declared.consistent_reservoir.Admitted.{Admitted}
 use Rattle.orders.specs.declared.consistent_reservoir.Raised.{Raised}
 use Rattle.orders.specs.Outcomes.{toldOutcome}
 use Rattle.orders.specs.ReservoirCalls.{fitting, afterOpen, toldOpened, openCall, admitted, admitCall, raised, growLayerCall, afterSample, sampleCall}
-use Rattle.exports.specs.Coded.{truth}
-use Rattle.exports.specs.Reservoirs.{wordsOf, recordOf, codedDone, crossed, newCrossed, nextCrossed, growCrossed, crossedOut, sampleCrossed}
+use Rattle.exports.specs.Coded.{truth, codedDone}
+use Rattle.exports.specs.Crossings.{crossed, crossedOne}
+use Rattle.exports.specs.Reservoirs.{wordsOf, recordOf, newCrossed, nextCrossed, growCrossed, sampleCrossed, fitsCrossed}
 
 -- ---- new
 
@@ -78,17 +78,18 @@ module _ (ws l : List ℕ) (r : ConsistentReservoir) (a : Raised) (l′ : List �
 
 -- ---- the sample, and the test
 
-pub sample-few : (ws l o : List ℕ) (r : ℕ) → r ≡ 2 ^ 63 + 4 → length ws < 6 → crossedOut r o ≡ sampleCrossed ws l o
+pub sample-few : (ws l o : List ℕ) (r : ℕ) → r ≡ 2 ^ 63 + 4 → length ws < 6 → crossedOne r o ≡ sampleCrossed ws l o
 unfolding sampleCrossed
 sample-few ws l o r e h = rw (e, lt-ltb (length ws) 6 h)
 
 pub sample-coded : (ws l o : List ℕ) (r : ConsistentReservoir) (a : Outcome) (o′ : List ℕ) (x : ℕ) → r ≡ recordOf ws → afterSample (toldOutcome a) o′ ≡ sampleCall r l o
-    → x ≡ codedDone (toldOutcome a) → 6 ≤ length ws → crossedOut x o′ ≡ sampleCrossed ws l o
+    → x ≡ codedDone (toldOutcome a) → 6 ≤ length ws → crossedOne x o′ ≡ sampleCrossed ws l o
 unfolding sampleCrossed
 sample-coded ws l o r a o′ x is e w h =
     let f : sampleCall (recordOf ws) l o ≡ afterSample (toldOutcome a) o′ = sym (e ∙ ap (λ (z : ConsistentReservoir). sampleCall z l o) is) in
     rw (le-ltb (length ws) 6 h, f, w)
 
 pub fits-coded : (ws l : List ℕ) (r : ConsistentReservoir) (b : Bool) (x : ℕ) → r ≡ recordOf ws → b ≡ fitting r l → x ≡ truth b → 6 ≤ length ws
-    → x ≡ cond (ltb (length ws) 6) (2 ^ 63 + 4) (truth (fitting (recordOf ws) l))
+    → x ≡ fitsCrossed ws l
+unfolding fitsCrossed
 fits-coded ws l r b x is e w h = rw (le-ltb (length ws) 6 h) (w ∙ ap truth e ∙ ap (λ (z : ConsistentReservoir). truth (fitting z l)) is)

@@ -3,3 +3,5 @@ pub mod DigestLaws
 pub mod CrossLaws
 pub mod OrderCrossLaws
 pub mod RunLaws
+pub mod ChooserCrossLaws
+pub mod SlotCrossLaws

@@ -15,27 +15,28 @@ use Rattle.orders.specs.Orders.{noneCounted, P}
 use Rattle.orders.specs.OrderCalls.{orderOf, Start, started, newCall, stepped, nextCall}
 use Rattle.orders.proofs.OrderWalks.{Going, restOf, going-new, rest-new}
 use Rattle.exports.specs.Coded.{codedNumber, fedAll, digest}
-use Rattle.exports.specs.Orders.{orderWords, orderAs, crossedOrder, newOrderCrossed, nextOrderCrossed, orderDigest}
+use Rattle.exports.specs.Crossings.{crossedOne}
+use Rattle.exports.specs.Orders.{orderWords, orderAs, newOrderCrossed, nextOrderCrossed, orderDigest}
 use Rattle.exports.specs.InnerDigests.{fedWith}
 
 -- ---- new
 
-pub new-short : (n key : ℕ) (ws : List ℕ) (r : ℕ) → r ≡ 2 ^ 63 + 4 → length ws < 18 → crossedOrder r ws ≡ newOrderCrossed n key ws
+pub new-short : (n key : ℕ) (ws : List ℕ) (r : ℕ) → r ≡ 2 ^ 63 + 4 → length ws < 18 → crossedOne r ws ≡ newOrderCrossed n key ws
 unfolding newOrderCrossed
 new-short n key ws r e h = rw (e, lt-ltb (length ws) 18 h)
 
 module _ (n key : ℕ) (ws : List ℕ) (s : Started) (e : started s ≡ newCall n key) (h : 18 ≤ length ws) where
-  pub new-refused : (c x : ℕ) → s .outcome ≡ outcome.Refused c → x ≡ 2 ^ 63 + c → crossedOrder x ws ≡ newOrderCrossed n key ws
+  pub new-refused : (c x : ℕ) → s .outcome ≡ outcome.Refused c → x ≡ 2 ^ 63 + c → crossedOne x ws ≡ newOrderCrossed n key ws
   unfolding newOrderCrossed
   new-refused c x m w = rw (le-ltb (length ws) 18 h, ← e, m, w)
 
-  pub new-made : s .outcome ≡ outcome.Done → (ws′ : List ℕ) → ws′ ≡ written (orderWords (s .order)) ws → crossedOrder 0 ws′ ≡ newOrderCrossed n key ws
+  pub new-made : s .outcome ≡ outcome.Done → (ws′ : List ℕ) → ws′ ≡ written (orderWords (s .order)) ws → crossedOne 0 ws′ ≡ newOrderCrossed n key ws
   unfolding newOrderCrossed
   new-made m ws′ w = rw (le-ltb (length ws) 18 h, ← e, m, w)
 
 -- ---- next
 
-pub next-short : (ws : List ℕ) (r : ℕ) → r ≡ 2 ^ 63 + 4 → length ws < 18 → crossedOrder r ws ≡ nextOrderCrossed ws
+pub next-short : (ws : List ℕ) (r : ℕ) → r ≡ 2 ^ 63 + 4 → length ws < 18 → crossedOne r ws ≡ nextOrderCrossed ws
 unfolding nextOrderCrossed
 next-short ws r e h = rw (e, lt-ltb (length ws) 18 h)
 

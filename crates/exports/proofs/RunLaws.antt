@@ -23,7 +23,8 @@ use Rattle.exports.specs.declared.permutations.Ran.{Ran}
 use Rattle.exports.specs.Coded.{fedAll}
 use Rattle.exports.specs.InnerDigests.{fedWith}
 use Rattle.exports.specs.InnerRuns.{runOf, runOn, RunCrossed, ranAs, runCrossed}
-use Rattle.exports.specs.Orders.{orderWords, orderAs, crossedOrder, steppedAs, nextOrderCrossed}
+use Rattle.exports.specs.Crossings.{crossedOne}
+use Rattle.exports.specs.Orders.{orderWords, orderAs, steppedAs, nextOrderCrossed}
 
 -- ---- the loop
 
@@ -50,7 +51,7 @@ module _ (count : ℕ) (ws : List ℕ) (g : Given) (o : ConsistentPermutation) (
   ran-number y m ws′ w = rw (← e, m, w)
 
 -- one call
-pub next-run : (r : Ran) (ws ws′ : List ℕ) → ranAs r ws′ ≡ runCrossed 1 ws → 18 ≤ length ws → crossedOrder (r .answer) ws′ ≡ nextOrderCrossed ws
+pub next-run : (r : Ran) (ws ws′ : List ℕ) → ranAs r ws′ ≡ runCrossed 1 ws → 18 ≤ length ws → crossedOne (r .answer) ws′ ≡ nextOrderCrossed ws
 unfolding runCrossed nextOrderCrossed
 next-run r ws ws′ e h = rw (le-ltb (length ws) 18 h) (ap (λ (z : RunCrossed). z .last) e)
 

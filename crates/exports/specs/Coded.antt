@@ -44,6 +44,11 @@ abbrev pub codedNumber : Told ℕ → ℕ
 codedNumber (says y) = y
 codedNumber (refusal c) = 2 ^ 63 + c
 
+-- 0 for a call with no number to say, refusal c as 2^63 + c
+abbrev pub codedDone : {A : Type 0} → Told A → ℕ
+codedDone (says x) = 0
+codedDone (refusal c) = 2 ^ 63 + c
+
 -- the stand-in of document 01 fed with all of a list, one after the other
 abbrev pub fedAll : ℕ → List ℕ → ℕ
 fedAll state [] = state

@@ -8,7 +8,8 @@ use Rattle.orders.specs.declared.consistent_permutation.ConsistentPermutation.{
 use Rattle.orders.specs.OrderCalls.{nextCall}
 use Rattle.exports.specs.declared.permutations.Ran.{Ran}
 use Rattle.exports.specs.InnerDigests.{fedWith}
-use Rattle.exports.specs.Orders.{CrossedOrder, crossedOrder, orderAs, steppedAs}
+use Rattle.exports.specs.Crossings.{CrossedOne, crossedOne}
+use Rattle.exports.specs.Orders.{orderAs, steppedAs}
 
 -- what the last call said, the order after it, and a state fed with all numbers
 pub record Run : Type 0 where
@@ -28,11 +29,11 @@ runOn (suc c) r =
 
 -- as it crosses, from the order in the words and with nothing fed
 pub record RunCrossed : Type 0 where
-  pub last : CrossedOrder
+  pub last : CrossedOne
   pub fed : ℕ
 
 abbrev pub ranAs : Ran → List ℕ → RunCrossed
-ranAs r ws = record { last = crossedOrder (r .answer) ws; fed = r .fed }
+ranAs r ws = record { last = crossedOne (r .answer) ws; fed = r .fed }
 
 unfoldable pub runCrossed : ℕ → List ℕ → RunCrossed
 runCrossed c ws =

@@ -1,5 +1,8 @@
 pub mod Coded
 pub mod InnerDigests
+pub mod Crossings
 pub mod Reservoirs
 pub mod Orders
 pub mod InnerRuns
+pub mod Chooser
+pub mod Slots

@@ -5,13 +5,14 @@ use mathlib.Core.List.{List, _∷_, map}
 use mathlib.Core.Option.{Option}
 use Prim.Native.Nat.{ℕ, _+_, _*_, _/_, _%_, _^_}
 use lib.Dec.{ltb}
-use lib.ListN.{length, take, getD}
+use lib.ListN.{take, getD}
 use Rattle.lists.specs.Told.{Told, refusal, says}
 use Rattle.lists.specs.Lists.{zeroTo, written}
 use Rattle.orders.specs.declared.consistent_permutation.ConsistentPermutation.{ConsistentPermutation}
 use Rattle.orders.specs.Orders.{P}
 use Rattle.orders.specs.OrderCalls.{orderOf, keyOf, newCall, nextCall}
 use Rattle.exports.specs.Coded.{codedHash, digest}
+use Rattle.exports.specs.Crossings.{CrossedOne, crossedOne, enough}
 
 -- the key's low and high 32 bits, n, and the fifteen counters
 abbrev pub orderWords : ConsistentPermutation → List ℕ
@@ -20,33 +21,24 @@ orderWords o = keyOf o % 2 ^ 32 ∷ keyOf o / 2 ^ 32 ∷ o .n ∷ map (λ i. get
 abbrev pub orderAs : List ℕ → ConsistentPermutation
 orderAs ws = orderOf (getD ws 1 0 * 2 ^ 32 + getD ws 0 0) (getD ws 2 0) (map (λ i. getD ws (3 + i) 0) (zeroTo 15))
 
--- what a call answers, and the words after it
-pub record CrossedOrder : Type 0 where
-  pub answer : ℕ
-  pub words : List ℕ
-
-abbrev pub crossedOrder : ℕ → List ℕ → CrossedOrder
-crossedOrder a ws = record { answer = a; words = ws }
-
 -- a refusal leaves the words
-abbrev pub startedAs : List ℕ → Told (Unit {0}) → ConsistentPermutation → CrossedOrder
-startedAs ws (says u) o = crossedOrder 0 (written (orderWords o) ws)
-startedAs ws (refusal c) o = crossedOrder (2 ^ 63 + c) ws
+abbrev pub startedAs : List ℕ → Told (Unit {0}) → ConsistentPermutation → CrossedOne
+startedAs ws (says u) o = crossedOne 0 (written (orderWords o) ws)
+startedAs ws (refusal c) o = crossedOne (2 ^ 63 + c) ws
 
--- 4 for fewer than eighteen words, before all else
-unfoldable pub newOrderCrossed : ℕ → ℕ → List ℕ → CrossedOrder
+unfoldable pub newOrderCrossed : ℕ → ℕ → List ℕ → CrossedOne
 newOrderCrossed n key ws =
     let s = newCall n key in
-    cond (ltb (length ws) 18) (crossedOrder (2 ^ 63 + 4) ws) (startedAs ws (s .told) (s .order))
+    enough 18 ws (λ a. crossedOne a ws) (startedAs ws (s .told) (s .order))
 
-abbrev pub steppedAs : List ℕ → Told (Option ℕ) → ConsistentPermutation → CrossedOrder
-steppedAs ws (says o) w = crossedOrder (codedHash (says o)) (written (orderWords w) ws)
-steppedAs ws (refusal c) w = crossedOrder (2 ^ 63 + c) ws
+abbrev pub steppedAs : List ℕ → Told (Option ℕ) → ConsistentPermutation → CrossedOne
+steppedAs ws (says o) w = crossedOne (codedHash (says o)) (written (orderWords w) ws)
+steppedAs ws (refusal c) w = crossedOne (2 ^ 63 + c) ws
 
-unfoldable pub nextOrderCrossed : List ℕ → CrossedOrder
+unfoldable pub nextOrderCrossed : List ℕ → CrossedOne
 nextOrderCrossed ws =
     let s = nextCall (orderAs ws) in
-    cond (ltb (length ws) 18) (crossedOrder (2 ^ 63 + 4) ws) (steppedAs ws (s .said) (s .walk))
+    enough 18 ws (λ a. crossedOne a ws) (steppedAs ws (s .said) (s .walk))
 
 -- ---- the first numbers of an order, as one number; 1 for n above 2^30
 

@@ -1,15 +1,15 @@
 -- How a reservoir crosses to C and Rust: its record as six words, its answers as one number.
 -- Assumes nothing.
-use mathlib.Core.Bool.{cond}
 use mathlib.Core.List.{List, [], _∷_}
 use mathlib.Core.Option.{Option, none, some}
 use Prim.Native.Nat.{ℕ, _+_, _*_, _/_, _%_, _^_}
-use lib.Dec.{ltb}
-use lib.ListN.{length, getD}
+use lib.ListN.{getD}
 use Rattle.lists.specs.Told.{Told, refusal, says}
 use Rattle.lists.specs.Lists.{written}
 use Rattle.orders.specs.declared.consistent_reservoir.ConsistentReservoir.{ConsistentReservoir}
-use Rattle.orders.specs.ReservoirCalls.{keyOf, jOf, reservoirOf, openCall, admitCall, growLayerCall, sampleCall}
+use Rattle.orders.specs.ReservoirCalls.{keyOf, jOf, reservoirOf, fitting, openCall, admitCall, growLayerCall, sampleCall}
+use Rattle.exports.specs.Coded.{truth, codedDone}
+use Rattle.exports.specs.Crossings.{Crossed, crossed, CrossedOne, crossedOne, enough, wordsAfter}
 
 -- the key's low and high 32 bits, k, n, the layer and the used length
 abbrev pub wordsOf : ConsistentReservoir → List ℕ
@@ -18,31 +18,13 @@ wordsOf r = keyOf r % 2 ^ 32 ∷ keyOf r / 2 ^ 32 ∷ r .k ∷ r .n ∷ jOf r �
 abbrev pub recordOf : List ℕ → ConsistentReservoir
 recordOf ws = reservoirOf (getD ws 1 0 * 2 ^ 32 + getD ws 0 0) (getD ws 2 0) (getD ws 3 0) (getD ws 4 0) (getD ws 5 0)
 
--- ---- answers as one number: refusal c is 2^63 + c
-
--- the location in times 2^32 plus the one out, none as 2^63
+-- the location in times 2^32 plus the one out, none as 2^63, refusal c as 2^63 + c
 abbrev pub codedExchange : Told (Option (ℕ × ℕ)) → ℕ
 codedExchange (says none) = 2 ^ 63
 codedExchange (says (some x)) = x .0 * 2 ^ 32 + x .1
 codedExchange (refusal c) = 2 ^ 63 + c
 
-abbrev pub codedDone : Told (Unit {0}) → ℕ
-codedDone (says u) = 0
-codedDone (refusal c) = 2 ^ 63 + c
-
--- ---- what a call answers, and the words and the list after it
-
-pub record Crossed : Type 0 where
-  pub answer : ℕ
-  pub words : List ℕ
-  pub list : List ℕ
-
-abbrev pub crossed : ℕ → List ℕ → List ℕ → Crossed
-crossed a ws l = record { answer = a; words = ws; list = l }
-
--- 4 for fewer than six words, before all else; nothing changes then
-abbrev pub sixWords : List ℕ → List ℕ → Crossed → Crossed
-sixWords ws l c = cond (ltb (length ws) 6) (crossed (2 ^ 63 + 4) ws l) c
+-- ---- what the calls leave
 
 -- a record is written only where there is one
 abbrev pub openedAs : List ℕ → Told ConsistentReservoir → List ℕ → Crossed
@@ -50,32 +32,22 @@ openedAs ws (says r) l = crossed 0 (written (wordsOf r) ws) l
 openedAs ws (refusal c) l = crossed (2 ^ 63 + c) ws l
 
 unfoldable pub newCrossed : ℕ → ℕ → ℕ → List ℕ → List ℕ → Crossed
-newCrossed k n key l ws = let o = openCall k n key l in sixWords ws l (openedAs ws (o .told) (o .list))
-
--- a refusal leaves the words
-abbrev pub wordsAfter : {A : Type 0} → List ℕ → Told A → ConsistentReservoir → List ℕ
-wordsAfter ws (says x) r = written (wordsOf r) ws
-wordsAfter ws (refusal c) r = ws
+newCrossed k n key l ws = let o = openCall k n key l in enough 6 ws (λ a. crossed a ws l) (openedAs ws (o .told) (o .list))
 
 unfoldable pub nextCrossed : List ℕ → List ℕ → Crossed
 nextCrossed ws l =
     let a = admitCall (recordOf ws) l in
-    sixWords ws l (crossed (codedExchange (a .told)) (wordsAfter ws (a .told) (a .reservoir)) (a .list))
+    enough 6 ws (λ r. crossed r ws l) (crossed (codedExchange (a .told)) (wordsAfter ws (a .told) (wordsOf (a .reservoir))) (a .list))
 
 unfoldable pub growCrossed : List ℕ → List ℕ → Crossed
 growCrossed ws l =
     let a = growLayerCall (recordOf ws) l in
-    sixWords ws l (crossed (codedDone (a .told)) (wordsAfter ws (a .told) (a .reservoir)) (a .list))
+    enough 6 ws (λ r. crossed r ws l) (crossed (codedDone (a .told)) (wordsAfter ws (a .told) (wordsOf (a .reservoir))) (a .list))
 
--- the answer, and the other list after it
-pub record CrossedOut : Type 0 where
-  pub answer : ℕ
-  pub out : List ℕ
-
-abbrev pub crossedOut : ℕ → List ℕ → CrossedOut
-crossedOut a o = record { answer = a; out = o }
-
-unfoldable pub sampleCrossed : List ℕ → List ℕ → List ℕ → CrossedOut
+unfoldable pub sampleCrossed : List ℕ → List ℕ → List ℕ → CrossedOne
 sampleCrossed ws l o =
     let a = sampleCall (recordOf ws) l o in
-    cond (ltb (length ws) 6) (crossedOut (2 ^ 63 + 4) o) (crossedOut (codedDone (a .told)) (a .out))
+    enough 6 ws (λ r. crossedOne r o) (crossedOne (codedDone (a .told)) (a .out))
+
+unfoldable pub fitsCrossed : List ℕ → List ℕ → ℕ
+fitsCrossed ws l = enough 6 ws (λ a. a) (truth (fitting (recordOf ws) l))

@@ -1,8 +1,10 @@
 // The library for programs in C and Rust: functions on numbers, with the promises of what they call.
+pub mod chooser;
 mod digests;
 mod parts;
 pub mod permutations;
 pub mod reservoirs;
+pub mod slots;
 
 ghost use mathlib.Core.Path.{_≡_};
 ghost use Rattle.words.specs.Words.{wrappingMul, rotateRight, mix};

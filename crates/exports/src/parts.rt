@@ -1,6 +1,7 @@
 // Parts of the numbers that cross.
 ghost use mathlib.Core.Path.{_≡_};
 ghost use Prim.Native.Nat.{_+_, _*_, _^_};
+ghost use Rattle.exports.specs.Coded.{truth};
 
 // The number of a refusal.
 pub(crate) fn refused(c: u32) -> u64
@@ -14,4 +15,20 @@ pub(crate) fn joined(low: u32, high: u32) -> u64
     ensures { λ r. ⌜ r ≡ high * 2 ^ 32 + low ⌝ }
 {
     (high as u64) * 0x1_0000_0000 + (low as u64)
+}
+
+pub(crate) fn wide(x: u32) -> u64
+    ensures { λ r. ⌜ r ≡ x ⌝ }
+{
+    x as u64
+}
+
+// Yes as 1, no as 0.
+pub(crate) fn yes(b: bool) -> u64
+    ensures { λ r. ⌜ r ≡ truth b ⌝ }
+{
+    if b {
+        return 1;
+    }
+    0
 }

@@ -7,9 +7,10 @@ ghost use Rattle.lists.specs.Lists.{written};
 ghost use Rattle.orders.specs.Orders.{P};
 ghost use Rattle.orders.specs.OrderCalls.{toldGiven};
 ghost use Rattle.exports.specs.Coded.{codedNumber, fedAll};
+ghost use Rattle.exports.specs.Crossings.{crossedOne};
 ghost use Rattle.exports.specs.InnerDigests.{fedWith};
 ghost use Rattle.exports.specs.InnerRuns.{ranAs, runCrossed};
-ghost use Rattle.exports.specs.Orders.{orderWords, orderAs, crossedOrder, newOrderCrossed, nextOrderCrossed, orderDigest};
+ghost use Rattle.exports.specs.Orders.{orderWords, orderAs, newOrderCrossed, nextOrderCrossed, orderDigest};
 use crate::parts;
 use orders::Outcome;
 use orders::consistent_permutation::ConsistentPermutation;
@@ -76,7 +77,7 @@ fn store(o: ConsistentPermutation, ws: &mut [u32])
 // A new order of 0..n.
 #[no_mangle]
 pub extern "C" fn perillajamb_order_new(n: u32, key: u64, ws: &mut [u32]) -> u64
-    ensures { λ r. ⌜ crossedOrder r (now (ws .exit)) ≡ newOrderCrossed n key (now (ws .entry)) ⌝ }
+    ensures { λ r. ⌜ crossedOne r (now (ws .exit)) ≡ newOrderCrossed n key (now (ws .entry)) ⌝ }
 {
     if ws.len() < 18 {
         return parts::refused(4);
@@ -146,7 +147,7 @@ fn run(ws: &mut [u32], count: u32) -> Ran
 // Its next number.
 #[no_mangle]
 pub extern "C" fn perillajamb_order_next(ws: &mut [u32]) -> u64
-    ensures { λ r. ⌜ crossedOrder r (now (ws .exit)) ≡ nextOrderCrossed (now (ws .entry)) ⌝ }
+    ensures { λ r. ⌜ crossedOne r (now (ws .exit)) ≡ nextOrderCrossed (now (ws .entry)) ⌝ }
 {
     if ws.len() < 18 {
         return parts::refused(4);

@@ -1,15 +1,13 @@
 // Reservoirs for C and Rust. The record is six words that the caller keeps: the key's low and high 32 bits, k, n, the layer,
 // the used length.
 ghost use mathlib.Core.Path.{_≡_};
-ghost use mathlib.Core.Bool.{cond};
-ghost use Prim.Native.Nat.{_+_, _*_, _^_, _≤_};
-ghost use lib.Dec.{ltb};
+ghost use Prim.Native.Nat.{_≤_};
 ghost use lib.ListN.{length};
 ghost use Rattle.lists.specs.Lists.{written};
 ghost use Rattle.orders.specs.Outcomes.{toldOutcome};
-ghost use Rattle.orders.specs.ReservoirCalls.{fitting, toldExchange};
-ghost use Rattle.exports.specs.Reservoirs.{wordsOf, recordOf, codedExchange, codedDone, crossed, newCrossed, nextCrossed, growCrossed, crossedOut, sampleCrossed};
-ghost use Rattle.exports.specs.Coded.{truth};
+ghost use Rattle.exports.specs.Coded.{codedDone};
+ghost use Rattle.exports.specs.Crossings.{crossed, crossedOne};
+ghost use Rattle.exports.specs.Reservoirs.{wordsOf, recordOf, newCrossed, nextCrossed, growCrossed, sampleCrossed, fitsCrossed};
 use crate::parts;
 use orders::Outcome;
 use orders::consistent_reservoir::ConsistentReservoir;
@@ -120,7 +118,7 @@ pub extern "C" fn perillajamb_reservoir_grow_layer(words: &mut [u32], list: &mut
 // The sample, in the first k places of `out`.
 #[no_mangle]
 pub extern "C" fn perillajamb_reservoir_sample(words: &[u32], list: &[u32], out: &mut [u32]) -> u64
-    ensures { λ r. ⌜ crossedOut r (now (out .exit)) ≡ sampleCrossed (now (words .entry)) (now (list .entry)) (now (out .entry)) ⌝ }
+    ensures { λ r. ⌜ crossedOne r (now (out .exit)) ≡ sampleCrossed (now (words .entry)) (now (list .entry)) (now (out .entry)) ⌝ }
 {
     if words.len() < 6 {
         return parts::refused(4);
@@ -133,7 +131,7 @@ pub extern "C" fn perillajamb_reservoir_sample(words: &[u32], list: &[u32], out:
 // Whether the record fits its list: 1 or 0.
 #[no_mangle]
 pub extern "C" fn perillajamb_reservoir_fits(words: &[u32], list: &[u32]) -> u64
-    ensures { λ r. ⌜ r ≡ cond (ltb (length (now (words .entry))) 6) (2 ^ 63 + 4) (truth (fitting (recordOf (now (words .entry))) (now (list .entry)))) ⌝ }
+    ensures { λ r. ⌜ r ≡ fitsCrossed (now (words .entry)) (now (list .entry)) ⌝ }
 {
     if words.len() < 6 {
         return parts::refused(4);

@@ -2,7 +2,12 @@
 // last ones are the answer and the memory after it.
 ghost use Prim.Native.Nat.{_<_};
 use crate::calls;
+use crate::chooser_calls;
+use crate::choosings;
 use crate::histories;
+use crate::slot_calls;
+use crate::slot_histories;
+use crate::slot_lookups;
 
 // The line as far as it was read: its letter (0 before it came), the place of the number that is being read, the numbers.
 // Place 0 is the letter's own.
@@ -77,6 +82,13 @@ impl Fields {
             b'w' => histories::walk_agrees(self),
             b'a' => histories::history_agrees(self, false),
             b'g' => histories::history_agrees(self, true),
+            b'c' => choosings::new_agrees(self),
+            b'k' => choosings::with_k_agrees(self),
+            b'e' => slot_lookups::agrees(self),
+            b'j' => slot_histories::agrees(self),
+            b'u' => exports::slots::perillajamb_location_state(v[1], word(v[2])) == v[3],
+            b'C' | b'K' | b'W' | b'Y' | b'D' | b'I' => chooser_calls::agrees(self),
+            b'J' | b'L' | b'Q' | b'E' => slot_calls::agrees(self),
             _ => calls::agrees(self),
         }
     }

@@ -1,8 +1,14 @@
 // Replays the stored answers of the original through the proved library, and says how many agree.
 mod calls;
+mod chooser_calls;
+mod choosings;
 mod fields;
 mod histories;
+mod longs;
 mod memory;
+mod slot_calls;
+mod slot_histories;
+mod slot_lookups;
 mod tally;
 
 use fields::Fields;
@@ -115,4 +121,8 @@ fn main() {
     replay_file(b"reservoirs.txt", b"reservoirs: ");
     replay_file(b"refusals.txt", b"refusals: ");
     replay_file(b"handmade.txt", b"handmade: ");
+    replay_file(b"choosers.txt", b"choosers: ");
+    replay_file(b"slots.txt", b"slots: ");
+    replay_file(b"handmade_choosers.txt", b"handmade_choosers: ");
+    replay_file(b"handmade_slots.txt", b"handmade_slots: ");
 }

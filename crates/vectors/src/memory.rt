@@ -1,4 +1,4 @@
-// Memory for calls: filled from a line, compared with it, digested.
+// Memory of 32-bit words for calls: filled from a line, compared with it, digested.
 ghost use Prim.Native.Nat.{_<_};
 use crate::fields;
 use crate::fields::Fields;
@@ -48,7 +48,7 @@ pub(crate) fn has(line: Fields, place: usize, words: &[u32]) -> bool {
 }
 
 // A digest's state fed with a number.
-fn fed(d: u64, number: u64) -> u64 {
+pub(crate) fn fed(d: u64, number: u64) -> u64 {
     exports::perillajamb_seq_builder(d, number)
 }
 

@@ -3,7 +3,7 @@
 use mathlib.Core.Path.{ap, sym, _∙_}
 use borrow.Author.Needs.{needs}
 use Rattle.orders.specs.Outcomes.{toldOutcome}
-use Rattle.exports.specs.Reservoirs.{codedDone}
+use Rattle.exports.specs.Coded.{codedDone}
 use Rattle.exports.proofs.reservoirs.coded_outcome.Statement.{statement}
 use Rattle.exports.proofs.reservoirs.coded_outcome.Tie as tie
 

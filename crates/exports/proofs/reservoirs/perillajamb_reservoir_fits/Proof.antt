@@ -4,6 +4,7 @@ use mathlib.Core.Path.{ap, sym}
 use borrow.Author.Tests.{lt-ltb}
 use borrow.Author.Needs.{needs}
 use Rattle.exports.specs.Coded.{truth}
+use Rattle.exports.specs.Reservoirs.{fitsCrossed}
 use Rattle.exports.proofs.CrossLaws.{fits-coded}
 use Rattle.exports.proofs.reservoirs.perillajamb_reservoir_fits.Statement.{statement}
 use Rattle.exports.proofs.reservoirs.perillajamb_reservoir_fits.Tie as tie
@@ -12,6 +13,7 @@ refused-requires : tie.Need-refused-requires
 refused-requires c κs = search needs
 
 returns : tie.Need-returns
+unfolding fitsCrossed
 returns c = rw (c .refused .ensures, lt-ltb _ 6 (c .before .if1 .taken))
 
 loaded-requires : tie.Need-loaded-requires

@@ -1,0 +1,69 @@
+-- `vectors::slot_lookups::fill` meets its contract.
+-- Assumes nothing.
+use mathlib.Core.Path.{_≡_}
+use Prim.Native.Nat.{_≤_, _-_}
+use lib.ListN.{length, length-set}
+use borrow.Author.Needs.{needs}
+use Rattle.vectors.proofs.slot_lookups.fill.Statement.{statement}
+use Rattle.vectors.proofs.slot_lookups.fill.Tie as tie
+
+abbrev Inv-loop : tie.InvT-loop
+Inv-loop table₀ v i₀ table i = (i ≤ length table₀) × (length table ≡ length table₀)
+
+abbrev μ-loop : tie.MeasureT-loop
+μ-loop table₀ v i₀ table i = length table₀ - i
+
+loop-holds : tie.Need-loop-holds Inv-loop μ-loop
+loop-holds c = search needs
+
+array-read-byte : tie.Need-array-read-byte Inv-loop μ-loop
+array-read-byte c = search needs
+
+array-read-byte-2 : tie.Need-array-read-byte-2 Inv-loop μ-loop
+array-read-byte-2 c = search needs
+
+array-read-byte-3 : tie.Need-array-read-byte-3 Inv-loop μ-loop
+array-read-byte-3 c = search needs
+
+array-read-byte-4 : tie.Need-array-read-byte-4 Inv-loop μ-loop
+array-read-byte-4 c = search needs
+
+byte-requires : tie.Need-byte-requires Inv-loop μ-loop
+byte-requires c κs = search needs
+
+slice-write-table : tie.Need-slice-write-table Inv-loop μ-loop
+slice-write-table c = search needs
+
+add-i : tie.Need-add-i Inv-loop μ-loop
+add-i c = search needs
+
+loop-less : tie.Need-loop-less Inv-loop μ-loop
+loop-less c = search needs
+
+loop-again : tie.Need-loop-again Inv-loop μ-loop
+loop-again c = simp length-set (search needs)
+
+same-length : tie.Need-same-length Inv-loop μ-loop
+same-length c = search needs
+
+returns : tie.Need-returns Inv-loop μ-loop
+returns c = search needs
+
+pub fill-spec : {M : Type 1} → statement M
+fill-spec =
+    tie.close
+    (tie.spec
+    Inv-loop
+    μ-loop
+    loop-holds
+    array-read-byte
+    array-read-byte-2
+    array-read-byte-3
+    array-read-byte-4
+    byte-requires
+    slice-write-table
+    add-i
+    loop-less
+    loop-again
+    same-length
+    returns)
