@@ -24,16 +24,16 @@ place s (suc k) n = cond (ltb (top s (suc k) n) (g s (suc k) n)) (suc k) (place 
 module _ (s : ℕ) where
   -- ---- one turn of lower, on a list whose sample at index i is b
 
-  larger-append : (i : ℕ) (p rest : List ℕ) (m : ℕ) → length p ≡ i → larger s (p ++ rest) i m ≡ larger s p i m
+  pub larger-front : (i : ℕ) (p rest : List ℕ) (m : ℕ) → i ≤ length p → larger s (p ++ rest) i m ≡ larger s p i m
   unfolding larger
-  larger-append zero p rest m e = refl
-  larger-append (suc i) p rest m e = rw (List·getD-append p rest 0 i (omega arith))
+  larger-front zero p rest m h = refl
+  larger-front (suc i) p rest m h = rw (List·getD-append p rest 0 i (omega arith))
 
   pub lower-on : (i : ℕ) (p rest : List ℕ) (b m : ℕ) → length p ≡ i → m ≤ b
       → lowerAt s (suc i) (p ++ b ∷ rest) m ≡ lowerAt s i (p ++ larger s p i m ∷ rest) (larger s p i m)
   unfolding lowerAt
   lower-on i p rest b m e h =
-      rw (larger-append i p (b ∷ rest) m e, getD-at p b rest 0 i e, le-ltb b m h, set-at p b rest (larger s p i m) i e)
+      rw (larger-front i p (b ∷ rest) m (omega arith), getD-at p b rest 0 i e, le-ltb b m h, set-at p b rest (larger s p i m) i e)
 
   pub lower-stop : (i : ℕ) (p rest : List ℕ) (b m : ℕ) → length p ≡ i → b < m → lowerAt s (suc i) (p ++ b ∷ rest) m ≡ moved (p ++ b ∷ rest) (suc i)
   unfolding lowerAt

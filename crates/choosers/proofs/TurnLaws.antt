@@ -14,6 +14,7 @@ use Rattle.lists.proofs.Tests.{by-test, by-below}
 use Rattle.choosers.specs.Choosers.{g, Moved, moved, larger, lowerAt, lower, grow}
 use Rattle.choosers.specs.InnerChoosers.{growIn, Within}
 use Rattle.choosers.proofs.SampleLaws.{g-lt, g-ge}
+use Rattle.choosers.proofs.LoweringLaws.{larger-front}
 
 module _ (s : ℕ) where
   -- ---- lower at an index
@@ -54,16 +55,11 @@ module _ (s : ℕ) where
 
   -- ---- lower touches the entries below its index only
 
-  larger-front : (i : ℕ) (p r : List ℕ) (m : ℕ) → i ≤ length p → larger s (p ++ r) i m ≡ larger s p i m
-  unfolding larger
-  larger-front zero p r m h = refl
-  larger-front (suc i) p r m h = rw (List·getD-append p r 0 i (omega arith))
-
   pub lower-front : (i : ℕ) (p r : List ℕ) (m : ℕ) → i ≤ length p → lowerAt s i (p ++ r) m ≡ moved (lowerAt s i p m .samples ++ r) (lowerAt s i p m .index)
   unfolding lowerAt
   lower-front zero p r m h = refl
   lower-front (suc i) p r m h =
-      rw (List·getD-append p r 0 i (omega arith), larger-front i p r m (omega arith), set-append-left p r i (larger s p i m) (omega arith))
+      rw (List·getD-append p r 0 i (omega arith), larger-front s i p r m (omega arith), set-append-left p r i (larger s p i m) (omega arith))
       (by-test (ltb (getD p i 0) m)
       (λ q. rw q)
       (λ q. rw q (lower-front i (set p i (larger s p i m)) r (larger s p i m) (omega (arith, length-set p i (larger s p i m))))))
