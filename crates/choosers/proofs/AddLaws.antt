@@ -186,3 +186,12 @@ module _ (m : ConsistentNodeMap) (t : List ℕ) where
         count-low = omega arith;
         bytes = λ y b. set-small t (m .total) 1 y h (omega arith) (λ d. p .bytes y (omega arith));
       }))
+
+  -- The table keeps its length.
+  pub add-bytes : length (addCall m t .table) ≡ length t
+  add-bytes =
+      add-by (λ a. length (a .table) ≡ length t)
+      (λ no. refl)
+      (λ yes. refl)
+      (λ x p v h z. length-set t x 1)
+      (λ p v h l. length-set t (m .total) 1)

@@ -47,7 +47,7 @@ module _ (m : ConsistentNodeMap) (t : List ℕ) (s places : ℕ) where
       is-holder = rw (ok, le-ltb places (min (length t) slotLimit) enough)
 
       -- with scratch enough, all of Q(count) is looked at
-      look-all : lookUp (m .total) t s places ≡ holder s t (m .total)
+      pub look-all : lookUp (m .total) t s places ≡ holder s t (m .total)
       unfolding lookUp holder
       look-all =
           let p = fits-parts m t ok in

@@ -116,3 +116,12 @@ module _ (m : ConsistentNodeMap) (t : List ℕ) (x : ℕ) where
         count-low = p .count-low;
         bytes = λ z h. set-small t x 0 z (omega (arith, active→ t (m .total) x y .0, p .count-le)) (omega arith) (λ n. p .bytes z h);
       }))
+
+  -- The table keeps its length.
+  pub remove-bytes : length (removeCall m t x .table) ≡ length t
+  remove-bytes =
+      remove-by (λ a. length (a .table) ≡ length t)
+      (λ no. refl)
+      (λ yes. refl)
+      (λ p y e. refl)
+      (λ p y d. length-set t x 0)

@@ -63,6 +63,10 @@ module _ (m : ConsistentNodeMap) (t : List ℕ) where
         every-take atMostOne t (m .total) (p .count-le) (λ x h. le-leb (getD t x 0) 1 (p .bytes x h)),
       )
 
+  -- no slot fits any table
+  pub new-fits : m .total ≡ 0 → fitting m t ≡ true
+  new-fits e = fits-of (record { count-le = omega arith; count-low = omega arith; bytes = λ x h. absurd (omega arith) })
+
   -- the code's tests, one after the other
   pub fits-long : length t < m .total → fitting m t ≡ false
   unfolding fitting

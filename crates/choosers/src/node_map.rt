@@ -1,8 +1,9 @@
 // The slot map of document 01: a slot count, and a byte a slot in a table that is lent to each call.
 ghost use mathlib.Core.Path.{_≡_};
+ghost use Prim.Native.Nat.{min};
 ghost use lib.ListN.{length};
 ghost use Rattle.choosers.specs.Slots.{stateOf};
-ghost use Rattle.choosers.specs.SlotCalls.{mapOf, fitting, added, addCall, removed, removeCall, toldCount, lenCall, toldTruth, isEmptyCall, isActiveCall, toldLooked, lookUp, toldSlot, getCall, Spared};
+ghost use Rattle.choosers.specs.SlotCalls.{mapOf, slotLimit, fitting, added, addCall, removed, removeCall, toldCount, lenCall, toldTruth, isEmptyCall, isActiveCall, toldLooked, lookUp, toldSlot, getCall, Spared};
 ghost use Rattle.choosers.specs.InnerSlots.{refusedSlot, refusedRemoval};
 use crate::lookups;
 use crate::tables;
@@ -97,6 +98,13 @@ pub fn first_active(count: u32, table: &[u8], state: u64, scratch: &mut [u64]) -
         k += 1;
     }
     Looked::Missing
+}
+
+// How many places of scratch a lookup over a table may need: refusal 4 of `get`.
+pub fn scratch_places(table: &[u8]) -> usize
+    ensures { λ r. ⌜ r ≡ min (length (now (table .entry))) slotLimit ⌝ }
+{
+    tables::places(table.len())
 }
 
 impl ConsistentNodeMap {

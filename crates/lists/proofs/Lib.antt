@@ -21,3 +21,4 @@ pub mod Listing
 pub mod Finding
 pub mod Ranges
 pub mod Having
+pub mod Sets

@@ -10,6 +10,7 @@ use lib.ListN.{length, take, drop, getD, set, length-append, length-take, length
 use lib.Seq.{take-at, take-suc, drop-cons, set-at, append-snoc, length-take-le, getD-take, getD-set-same, getD-set-other}
 use Rattle.lists.specs.Lists.{written}
 use Rattle.lists.proofs.Tests.{by-same}
+use Rattle.lists.proofs.Ascending.{length-snoc}
 
 -- the list that stands once the places from p on are written
 abbrev pub part : List ℕ → List ℕ → ℕ → List ℕ
@@ -61,6 +62,19 @@ written-take k xs ws e = take-at xs (drop (length xs) ws) k e
 pub written-at : (i : ℕ) (xs ws : List ℕ) → i < length xs → getD (written xs ws) i 0 ≡ getD xs i 0
 unfolding written
 written-at i xs ws h = List·getD-append xs (drop (length xs) ws) 0 i h
+
+-- one more place is written
+pub written-more : (xs old : List ℕ) (p x : ℕ) → p ≡ length xs → p < length old → set (written xs old) p x ≡ written (xs ++ (x ∷ [])) old
+unfolding written
+written-more xs old p x e h =
+    rw (
+      ← e,
+      drop-cons old p 0 h,
+      set-at xs (getD old p 0) (drop (suc p) old) x p (sym e),
+      length-snoc xs x,
+      ← e,
+      append-snoc xs x (drop (suc p) old),
+    )
 
 -- ---- one place written
 

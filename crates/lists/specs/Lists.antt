@@ -1,5 +1,6 @@
 -- Lists of numbers by a test: the words that the definitions of the crates above are written in.
 -- Assumes nothing.
+use mathlib.Core.Path.{_≡_}
 use mathlib.Core.Bool.{Bool, true, false, cond, _&&_, not}
 use mathlib.Core.List.{List, [], _∷_, _++_}
 use mathlib.Core.Option.{Option, none, some, Option·getD}
@@ -135,3 +136,11 @@ find p (x ∷ xs) =
 -- the first entry of xs that ys lacks, 0 where it lacks none
 unfoldable pub lacked : List ℕ → List ℕ → ℕ
 lacked xs ys = Option·getD (find (λ x. not (has x ys)) xs) 0
+
+-- from the list l to the list l′ the number v comes in, o goes out, and the others keep their order
+pub record Exchanges (l l′ : List ℕ) (v o : ℕ) : Type 0 where
+  pub v-new : occ v l ≡ 0
+  pub v-in : occ v l′ ≡ 1
+  pub o-was : occ o l ≡ 1
+  pub o-out : occ o l′ ≡ 0
+  pub others : without v l′ ≡ without o l

@@ -7,3 +7,8 @@ use Prim.Native.Nat.{ℕ}
 pub data Told (A : Type 0) : Type 0 where
   refusal : ℕ → Told A
   says : A → Told A
+
+-- the same refusal, or f of what is said
+abbrev pub mapTold : {A B : Type 0} → (A → B) → Told A → Told B
+mapTold f (refusal w) = refusal w
+mapTold f (says x) = says (f x)

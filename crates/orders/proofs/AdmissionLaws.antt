@@ -13,7 +13,7 @@ use lib.Dec.{ltb}
 use lib.ListN.{length, take}
 use lib.Seq.{length-take-le}
 use Rattle.lists.specs.Told.{says}
-use Rattle.lists.specs.Lists.{keep, below, notBelow, upTo, replace, standing, last, written, smallest}
+use Rattle.lists.specs.Lists.{keep, below, notBelow, upTo, replace, standing, last, written, smallest, Exchanges}
 use Rattle.lists.proofs.Tests.{by-below}
 use Rattle.lists.proofs.Prefixes.{upTo-long}
 use Rattle.lists.proofs.Replacing.{replace-length}
@@ -27,7 +27,7 @@ use Rattle.orders.specs.ReservoirCalls.{keyOf, jOf, listed, sample, rese
 use Rattle.orders.proofs.LogLaws.{pow-up}
 use Rattle.orders.proofs.OrderLaws.{zero-top, low-outputs}
 use Rattle.orders.proofs.HeldLaws.{heldAt, inputsAt, Comes, comes, waits, held-long, grow-through, grow-to, grow-none}
-use Rattle.orders.proofs.DueLaws.{due-some, due-none, due-next, Exchanges, next-exchange}
+use Rattle.orders.proofs.DueLaws.{due-some, due-none, due-next, next-exchange}
 use Rattle.orders.proofs.ReservoirLaws.{Kept, held-place, written-kept, sample-is, fitting-kept, list-at, used-is}
 
 -- ---- an exchange

@@ -11,7 +11,7 @@ use native.Mathlib.Nat.{le-refl}
 use native.Mathlib.Omega.{arith}
 use lib.ListN.{length, take, getD}
 use lib.Seq.{take-suc, length-take-le}
-use Rattle.lists.specs.Lists.{keep, below, occ, has, without, other}
+use Rattle.lists.specs.Lists.{keep, below, occ, has, without, other, Exchanges}
 use Rattle.lists.proofs.Tests.{below-yes, below-no, same-yes, by-below, by-same}
 use Rattle.lists.proofs.Counting.{order-none, order-occ}
 use Rattle.lists.proofs.Members.{has-yes, has-no, has→occ, occ-append, occ-keep-yes, keep-agree, keep-append}
@@ -75,14 +75,6 @@ out-stays-out key k n n′ x a b l c =
     let h : occ x (take k (P key n′)) ≤ occ x (take k (keep (below n) (P key n′))) = occ-first (below n) x (below-yes x n a) k k (le-refl k) (P key n′) in
     let e : occ x (take k (keep (below n) (P key n′))) ≡ occ x (take k (P key n)) = ap (λ (r : List ℕ). occ x (take k r)) (P-part key n n′ b l) in
     omega arith
-
--- one number goes out of a list, one comes in, the others keep their order
-pub record Exchanges (l l′ : List ℕ) (v o : ℕ) : Type 0 where
-  pub v-new : occ v l ≡ 0
-  pub v-in : occ v l′ ≡ 1
-  pub o-was : occ o l ≡ 1
-  pub o-out : occ o l′ ≡ 0
-  pub others : without v l′ ≡ without o l
 
 module _ (key k n v : ℕ) (k0 : 0 < k) (kn : k ≤ n) (x : Next key k n v) (v-small : v < 2 ^ 30) where
   abbrev o : ℕ

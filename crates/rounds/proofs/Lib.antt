@@ -1,0 +1,14 @@
+pub mod RoundLaws
+pub mod StepLaws
+pub mod LedgerLaws
+pub mod PlanLaws
+pub mod Demand3Laws
+pub mod MoveLaws
+pub mod RefusalLaws
+pub mod ReadLaws
+pub mod ReplayLaws
+pub mod RoundCallLaws
+pub mod DealLaws
+pub mod PlanCodeLaws
+pub mod ReplayTurns
+pub mod Examples

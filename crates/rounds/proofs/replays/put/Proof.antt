@@ -1,0 +1,64 @@
+-- `rounds::replays::put` meets its contract.
+-- Assumes nothing.
+use borrow.Author.Needs.{needs}
+use lib.ListN.{length-set}
+use Rattle.rounds.proofs.ReplayTurns.{placed-stores}
+use Rattle.rounds.proofs.replays.put.Statement.{statement}
+use Rattle.rounds.proofs.replays.put.Tie as tie
+
+mul-answers : tie.Need-mul-answers
+mul-answers c = search needs
+
+slice-write-answers : tie.Need-slice-write-answers
+slice-write-answers c = search needs
+
+add-answers : tie.Need-add-answers
+add-answers c = search needs
+
+mul-answers-2 : tie.Need-mul-answers-2
+mul-answers-2 c = search needs
+
+slice-write-answers-2 : tie.Need-slice-write-answers-2
+slice-write-answers-2 c = simp length-set (search needs)
+
+add-answers-2 : tie.Need-add-answers-2
+add-answers-2 c = search needs
+
+mul-answers-3 : tie.Need-mul-answers-3
+mul-answers-3 c = search needs
+
+slice-write-answers-3 : tie.Need-slice-write-answers-3
+slice-write-answers-3 c = simp length-set (search needs)
+
+add-answers-3 : tie.Need-add-answers-3
+add-answers-3 c = search needs
+
+mul-answers-4 : tie.Need-mul-answers-4
+mul-answers-4 c = search needs
+
+slice-write-answers-4 : tie.Need-slice-write-answers-4
+slice-write-answers-4 c = simp length-set (search needs)
+
+same-length : tie.Need-same-length
+same-length c = search needs
+
+returns : tie.Need-returns
+returns c = placed-stores _ _ _ _ _ _ (c .pre)
+
+pub put-spec : {M : Type 1} → statement M
+put-spec =
+    tie.close
+    (tie.spec
+    mul-answers
+    slice-write-answers
+    add-answers
+    mul-answers-2
+    slice-write-answers-2
+    add-answers-2
+    mul-answers-3
+    slice-write-answers-3
+    add-answers-3
+    mul-answers-4
+    slice-write-answers-4
+    same-length
+    returns)
