@@ -4,6 +4,7 @@ mod choosers;
 mod hashes;
 mod orders;
 mod reservoirs;
+mod rounds;
 mod slots;
 
 use std::hint::black_box;
@@ -112,4 +113,5 @@ fn main() {
     reservoirs::all();
     choosers::all();
     slots::all();
+    rounds::all();
 }

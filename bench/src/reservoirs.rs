@@ -66,7 +66,7 @@ fn opening(k: u32) {
 }
 
 /// What an admit says, as one number.
-fn exchanged(pair: Option<(u32, u32)>) -> u64 {
+pub fn exchanged(pair: Option<(u32, u32)>) -> u64 {
     let (came, went) = pair.unwrap();
     (u64::from(came) << 32) + u64::from(went)
 }

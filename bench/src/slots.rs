@@ -22,12 +22,12 @@ const CASES: [(u32, &str, u32, u64); 12] = [
 
 /// A call of its own, as the proved one is.
 #[inline(never)]
-fn get(slots: &Slots, state: u64) -> Option<u32> {
+pub fn get(slots: &Slots, state: u64) -> Option<u32> {
     slots.slot_of(state)
 }
 
 /// So many slots, any of them active.
-fn any_slots(total: u32, active: u32, draws: &mut Draws) -> Slots {
+pub fn any_slots(total: u32, active: u32, draws: &mut Draws) -> Slots {
     let mut table = vec![0; total as usize];
     while table.iter().filter(|&&byte| byte == 1).count() < active as usize {
         table[draws.below(total.into()) as usize] = 1;
@@ -35,11 +35,14 @@ fn any_slots(total: u32, active: u32, draws: &mut Draws) -> Slots {
     Slots::with(total, table)
 }
 
+/// Slots as one number.
+pub fn mixed(slots: impl Iterator<Item = u32>) -> u64 {
+    slots.fold(0u64, |sum, slot| sum.rotate_left(1) ^ u64::from(slot))
+}
+
 /// The slots of all states, as one number.
-fn found(states: &[u64], mut lookup: impl FnMut(u64) -> u32) -> u64 {
-    states.iter().fold(0u64, |sum, &state| {
-        sum.rotate_left(1) ^ u64::from(lookup(state))
-    })
+pub fn found(states: &[u64], mut lookup: impl FnMut(u64) -> u32) -> u64 {
+    mixed(states.iter().map(|&state| lookup(state)))
 }
 
 fn looking_up(what: &str, slots: &Slots, states: &[u64]) {

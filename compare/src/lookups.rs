@@ -7,7 +7,7 @@ use crate::slots::{any_byte, any_slots, spoil};
 use crate::{differ, told, word};
 
 /// A scratch's length for a table: what is asked for, one less, more, or any.
-fn any_places(bytes: usize, draws: &mut Draws) -> usize {
+pub fn any_places(bytes: usize, draws: &mut Draws) -> usize {
     let asked = bytes.min(LIMIT);
     match draws.below(8) {
         0 => asked.saturating_sub(1),
@@ -90,11 +90,17 @@ pub fn deleted(draws: &mut Draws) -> Option<String> {
     })
 }
 
-/// Lookups by document 01's choice order, in slots made by hand, half of them spoilt.
-pub fn handmade(draws: &mut Draws) -> Option<String> {
+/// Slots made by hand, few enough for document 01's choice order.
+pub fn few_slots(draws: &mut Draws) -> Slots {
     let mut slots = any_slots(draws);
     slots.table.truncate(12);
     slots.total = slots.total.min(slots.table.len() as u32);
+    slots
+}
+
+/// Lookups by document 01's choice order, in slots made by hand, half of them spoilt.
+pub fn handmade(draws: &mut Draws) -> Option<String> {
+    let mut slots = few_slots(draws);
     if draws.below(2) == 0 {
         spoil(&mut slots, draws);
     }

@@ -4,12 +4,16 @@
 mod choosers;
 mod document;
 mod document_choosers;
+mod document_rounds;
 mod document_slots;
 mod hashes;
 mod layers;
 mod lookups;
 mod orders;
 mod reservoirs;
+mod round_ledgers;
+mod round_replays;
+mod rounds;
 mod sides;
 mod slots;
 mod words;
@@ -23,17 +27,17 @@ use proved::Refused;
 type Trial = fn(&mut Draws) -> Option<String>;
 
 /// A call, how many of 100 inputs go to it, and the trial.
-const CALLS: [(&str, u64, Trial); 31] = [
-    ("wrapping_mul", 2, words::wrapping_mul),
-    ("rotate_right", 2, words::rotate_right),
-    ("splitmix64", 2, words::splitmix64),
-    ("layer_apply", 7, layers::layer_apply),
+const CALLS: [(&str, u64, Trial); 39] = [
+    ("wrapping_mul", 1, words::wrapping_mul),
+    ("rotate_right", 1, words::rotate_right),
+    ("splitmix64", 1, words::splitmix64),
+    ("layer_apply", 6, layers::layer_apply),
     ("KeyedLayer, over 0..n", 2, layers::layer_xors),
     ("layer_apply, refusals", 2, layers::refusals),
-    ("seq_builder", 2, hashes::seq_builder),
-    ("prev", 8, hashes::prev),
+    ("seq_builder", 1, hashes::seq_builder),
+    ("prev", 6, hashes::prev),
     ("into_prev", 2, hashes::into_prev),
-    ("next", 8, hashes::next),
+    ("next", 6, hashes::next),
     ("falling walk, step by step", 2, hashes::falling_steps),
     ("rising walk, step by step", 2, hashes::rising_steps),
     ("falling walk, digested", 1, hashes::falling_digest),
@@ -55,6 +59,22 @@ const CALLS: [(&str, u64, Trial); 31] = [
     ("get and first_active", 5, lookups::deleted),
     ("the same in slots made by hand", 2, lookups::handmade),
     ("location_state", 1, lookups::location_state),
+    ("rounds, opened and followed", 2, rounds::histories),
+    ("rounds made by hand", 1, rounds::handmade),
+    ("rounds, refusals", 1, rounds::refusals),
+    ("rounds, by the ledger", 1, round_ledgers::ledger),
+    ("rounds, what a change moves", 1, round_ledgers::moves),
+    ("rounds, replayed", 1, round_replays::replays),
+    (
+        "the original's, by the ledger",
+        1,
+        round_ledgers::original_ledger,
+    ),
+    (
+        "the original's, what moves",
+        1,
+        round_ledgers::original_moves,
+    ),
 ];
 
 fn main() {

@@ -121,8 +121,18 @@ fn lent(places: u64) -> (Lent, Reservoir) {
     (Lent::like(&theirs), theirs)
 }
 
-/// A reservoir opened with k of n, and calls after that. The list is too short for the opening, just holds it, has some more
-/// places or many.
+/// A list's length for an opening: too short for it, just long enough, with some more places or many.
+pub fn any_places(k: u32, n: u32, key: u64, draws: &mut Draws) -> u64 {
+    let used = ConsistentReservoir::new(k, n, key).values().len() as u64;
+    match draws.below(8) {
+        0 => draws.below(used),
+        1 => used,
+        2..4 => used + draws.below(u64::from(k) + 2),
+        _ => used + 8 * u64::from(k) + 64,
+    }
+}
+
+/// A reservoir opened with k of n, and calls after that.
 pub fn histories(draws: &mut Draws) -> Option<String> {
     let n = any_n(draws).max(1);
     let most = match draws.below(64) {
@@ -132,13 +142,7 @@ pub fn histories(draws: &mut Draws) -> Option<String> {
     };
     let k = 1 + draws.below(u64::from(n).min(most)) as u32;
     let key = word(draws);
-    let used = ConsistentReservoir::new(k, n, key).values().len() as u64;
-    let places = match draws.below(8) {
-        0 => draws.below(used),
-        1 => used,
-        2..4 => used + draws.below(u64::from(k) + 2),
-        _ => used + 8 * u64::from(k) + 64,
-    };
+    let places = any_places(k, n, key, draws);
     let (mut ours, mut theirs) = lent(places);
     opened(k, n, key, &mut ours, &mut theirs).or_else(|| {
         followed(
@@ -151,14 +155,19 @@ pub fn histories(draws: &mut Draws) -> Option<String> {
     })
 }
 
-/// Openings that document 01 refuses, and a record shorter than its words.
-pub fn refusals(draws: &mut Draws) -> Option<String> {
+/// An open's k and n that document 01 refuses: n above the limit, k 0, or k above n.
+pub fn refused_open(draws: &mut Draws) -> (u32, u32) {
     let n = any_n(draws);
-    let (k, n) = match draws.below(3) {
+    match draws.below(3) {
         0 => (word(draws) as u32, above_limit(draws)),
         1 => (0, n),
         _ => (n + 1 + (word(draws) as u32) % LIMIT, n),
-    };
+    }
+}
+
+/// Openings that document 01 refuses, and a record shorter than its words.
+pub fn refusals(draws: &mut Draws) -> Option<String> {
+    let (k, n) = refused_open(draws);
     let key = word(draws);
     let (mut ours, mut theirs) = lent(draws.below(8));
     opened(k, n, key, &mut ours, &mut theirs).or_else(|| {
@@ -192,7 +201,7 @@ fn listed(draws: &mut Draws, n: u32, size: u32) -> u32 {
 }
 
 /// A record made by hand that fits its list, or nearly: any numbers, some of them twice.
-fn fitting(draws: &mut Draws) -> Memory {
+pub fn fitting(draws: &mut Draws) -> Memory {
     let j = match draws.below(8) {
         0 => 14,
         1 => 13,
@@ -224,7 +233,7 @@ fn one_of(draws: &mut Draws, some: [u32; 4]) -> u32 {
 }
 
 /// Spoils one word of the record, one place of the list, or which number is the last.
-fn spoil(memory: &mut Memory, draws: &mut Draws) {
+pub fn spoil(memory: &mut Memory, draws: &mut Draws) {
     let Memory { words, list } = memory;
     let [_, _, k, n, j, used] = *words;
     let (places, size) = (list.len() as u32, size(j));

@@ -6,7 +6,7 @@ use crate::differ;
 
 /// A call on what stands in lent memory: a record, and a list of places.
 pub trait Call: Copy + Debug {
-    type Record: Copy + PartialEq + Debug;
+    type Record: Clone + PartialEq + Debug;
     type Place: Copy + PartialEq + Debug;
     /// What it says.
     type Said: PartialEq + Debug;
@@ -39,7 +39,7 @@ impl<C: Call> Lent<C> {
 
 impl<C: Call> Side<C> for Lent<C> {
     fn memory(&self) -> (C::Record, &[C::Place]) {
-        (self.record, &self.list)
+        (self.record.clone(), &self.list)
     }
 
     fn call(&mut self, call: C) -> C::Said {

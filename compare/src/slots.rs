@@ -78,7 +78,7 @@ impl Side<Call> for Slots {
 }
 
 /// A slot below the count, at it or above, or any number.
-fn any_slot(total: u32, draws: &mut Draws) -> u32 {
+pub fn any_slot(total: u32, draws: &mut Draws) -> u32 {
     match draws.below(16) {
         0 => word(draws) as u32,
         1..4 => total.wrapping_add(draws.below(3) as u32).wrapping_sub(1),

@@ -6,8 +6,11 @@ include!(concat!(env!("OUT_DIR"), "/original.rs"));
 
 mod choosers;
 mod hashes;
+mod ledgers;
 mod orders;
+mod replays;
 mod reservoirs;
+mod rounds;
 mod slots;
 mod stand_in;
 
@@ -20,8 +23,11 @@ pub use consistent_hash::{
 pub use consistent_permutation::{splitmix64, ConsistentPermutation};
 pub use consistent_reservoir::ConsistentReservoir;
 pub use hashes::{falling_digest, into_prev, next, prev, rising_digest, seq_builder};
+pub use ledgers::Ledger;
 pub use orders::{order_digest, Order};
+pub use replays::{spelt, RoundCall};
 pub use reservoirs::{Reservoir, Told, UNTOUCHED};
+pub use rounds::Round;
 pub use slots::{location_state, Slots, UNTOUCHED_BYTE};
 pub use stand_in::{digest, Draws, StandIn};
 

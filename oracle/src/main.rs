@@ -10,6 +10,7 @@ mod handmade_slots;
 mod hash_sets;
 mod order_sets;
 mod reservoir_sets;
+mod round_sets;
 mod slot_sets;
 
 use oracle::{layer_apply, splitmix64, Draws, Told};
@@ -122,6 +123,7 @@ fn how(name: &str) -> &'static str {
         "slots" => slot_sets::HOW,
         "handmade_choosers" => handmade_choosers::HOW,
         "handmade_slots" => handmade_slots::HOW,
+        "rounds" => round_sets::HOW,
         _ => "",
     }
 }
@@ -136,7 +138,11 @@ const ORIGINAL_IN_TABLES: &str =
     "consistent-choose-k of github/rust-gems 9804c5bc17, built in release; \
     refusals and the table's bytes are document 01's";
 
-const SETS: [Set; 11] = [
+const ORIGINAL_IN_ROUNDS: &str =
+    "consistent-choose-k of github/rust-gems 9804c5bc17, built in release: sample, exchange and slot; \
+    refusals, a location's state, which deleted slot joins and the table's bytes are document 01's";
+
+const SETS: [Set; 12] = [
     ("mix", ORIGINAL, mix),
     ("layers", ORIGINAL, layers),
     ("hashes", ORIGINAL, hash_sets::hashes),
@@ -164,6 +170,7 @@ const SETS: [Set; 11] = [
         "document 01, since the original has no table and takes any deleted slot",
         handmade_slots::handmade,
     ),
+    ("rounds", ORIGINAL_IN_ROUNDS, round_sets::rounds),
 ];
 
 fn main() {

@@ -56,6 +56,19 @@ impl Slots {
         Ok(slot as u32)
     }
 
+    /// The slot, the lowest where several are deleted. There the original's map is made anew, as it stands after taking that one.
+    pub fn add_lowest(&mut self) -> Told<u32> {
+        if self.deleted() <= 1 {
+            return self.add();
+        }
+        let slot = (0..self.total()).find(|&slot| !self.is_active(slot));
+        let slot = slot.expect("a slot is deleted");
+        let mut table = std::mem::take(&mut self.table);
+        table[slot as usize] = 1;
+        *self = Self::with(self.total(), table);
+        Ok(slot)
+    }
+
     pub fn remove(&mut self, slot: u32) -> Told<()> {
         let last = self.total().checked_sub(1);
         if !self.original.remove(slot as usize) {
@@ -85,9 +98,14 @@ impl Slots {
         self.original.get(StandIn(state)).map(|slot| slot as u32)
     }
 
+    /// Whether a scratch of so many places is long enough.
+    pub fn suffices(&self, places: usize) -> bool {
+        self.table.len().min(LIMIT) <= places
+    }
+
     /// `get` with a scratch of so many places.
     pub fn get(&self, state: u64, places: usize) -> Told<u32> {
-        if places < self.table.len().min(LIMIT) {
+        if !self.suffices(places) {
             return Err(4);
         }
         self.slot_of(state).ok_or(11)

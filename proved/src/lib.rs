@@ -110,6 +110,81 @@ extern "C" {
         places: usize,
     ) -> u64;
     fn perillajamb_location_state(key: u64, location: u32) -> u64;
+    fn perillajamb_round_open(
+        key: u64,
+        k: u32,
+        n: u32,
+        list: *mut u32,
+        places: usize,
+        record: *mut u32,
+        words: usize,
+    ) -> u64;
+    fn perillajamb_round_admit(
+        record: *mut u32,
+        words: usize,
+        list: *mut u32,
+        places: usize,
+        table: *const u8,
+        bytes: usize,
+    ) -> u64;
+    fn perillajamb_round_join(
+        record: *mut u32,
+        words: usize,
+        list: *const u32,
+        places: usize,
+        table: *mut u8,
+        bytes: usize,
+    ) -> u64;
+    fn perillajamb_round_withdraw(
+        record: *mut u32,
+        words: usize,
+        list: *const u32,
+        places: usize,
+        table: *mut u8,
+        bytes: usize,
+        slot: u32,
+    ) -> u64;
+    fn perillajamb_round_plan(
+        record: *const u32,
+        words: usize,
+        list: *const u32,
+        places: usize,
+        table: *const u8,
+        bytes: usize,
+        locations: *mut u32,
+        location_places: usize,
+        terminals: *mut u32,
+        terminal_places: usize,
+        scratch: *mut u64,
+        scratch_places: usize,
+    ) -> u64;
+    fn perillajamb_round_fits(
+        record: *const u32,
+        words: usize,
+        list: *const u32,
+        places: usize,
+        table: *const u8,
+        bytes: usize,
+    ) -> u64;
+    fn perillajamb_round_replay(
+        key: u64,
+        k: u32,
+        n: u32,
+        calls: *const u64,
+        count: usize,
+        list: *mut u32,
+        places: usize,
+        table: *mut u8,
+        bytes: usize,
+        answers: *mut u32,
+        answer_places: usize,
+        locations: *mut u32,
+        location_places: usize,
+        terminals: *mut u32,
+        terminal_places: usize,
+        scratch: *mut u64,
+        scratch_places: usize,
+    ) -> u64;
 }
 
 /// A refusal, by document 01's number.
@@ -156,6 +231,12 @@ fn decoded_truth(answer: u64) -> Result<bool, Refused> {
     let yes = decoded_number(answer)?;
     assert!(yes <= 1);
     Ok(yes == 1)
+}
+
+/// Two numbers below 2^32 come as first * 2^32 + second.
+#[inline]
+fn decoded_pair(answer: u64) -> Result<Option<(u32, u32)>, Refused> {
+    Ok(decoded_found(answer)?.map(|pair| ((pair >> 32) as u32, pair as u32)))
 }
 
 /// A count or a slot is below 2^32.
@@ -282,7 +363,7 @@ pub fn reservoir_next(record: &mut [u32], list: &mut [u32]) -> Result<Option<(u3
             list.len(),
         )
     };
-    Ok(decoded_found(answer)?.map(|pair| ((pair >> 32) as u32, pair as u32)))
+    decoded_pair(answer)
 }
 
 pub fn reservoir_grow_layer(record: &mut [u32], list: &mut [u32]) -> Result<(), Refused> {
@@ -468,4 +549,167 @@ pub fn first_active(total: u32, table: &[u8], state: u64, scratch: &mut [u64]) -
 /// The state of a location under a key.
 pub fn location_state(key: u64, location: u32) -> u64 {
     unsafe { perillajamb_location_state(key, location) }
+}
+
+/// A new round in a list, and in the first seven words lent: the key's low half and high half, k, n, the layer, the used length,
+/// and the slot count, which is 0.
+#[inline]
+pub fn round_open(
+    key: u64,
+    k: u32,
+    n: u32,
+    list: &mut [u32],
+    record: &mut [u32],
+) -> Result<(), Refused> {
+    let answer = unsafe {
+        perillajamb_round_open(
+            key,
+            k,
+            n,
+            list.as_mut_ptr(),
+            list.len(),
+            record.as_mut_ptr(),
+            record.len(),
+        )
+    };
+    decoded_done(answer)
+}
+
+/// The location that comes in and the one that goes out, or none. They come as in * 2^32 + out.
+#[inline]
+pub fn round_admit(
+    record: &mut [u32],
+    list: &mut [u32],
+    table: &[u8],
+) -> Result<Option<(u32, u32)>, Refused> {
+    let answer = unsafe {
+        perillajamb_round_admit(
+            record.as_mut_ptr(),
+            record.len(),
+            list.as_mut_ptr(),
+            list.len(),
+            table.as_ptr(),
+            table.len(),
+        )
+    };
+    decoded_pair(answer)
+}
+
+/// The terminal's slot.
+#[inline]
+pub fn round_join(record: &mut [u32], list: &[u32], table: &mut [u8]) -> Result<u32, Refused> {
+    let answer = unsafe {
+        perillajamb_round_join(
+            record.as_mut_ptr(),
+            record.len(),
+            list.as_ptr(),
+            list.len(),
+            table.as_mut_ptr(),
+            table.len(),
+        )
+    };
+    decoded_slot(answer)
+}
+
+#[inline]
+pub fn round_withdraw(
+    record: &mut [u32],
+    list: &[u32],
+    table: &mut [u8],
+    slot: u32,
+) -> Result<(), Refused> {
+    let answer = unsafe {
+        perillajamb_round_withdraw(
+            record.as_mut_ptr(),
+            record.len(),
+            list.as_ptr(),
+            list.len(),
+            table.as_mut_ptr(),
+            table.len(),
+            slot,
+        )
+    };
+    decoded_done(answer)
+}
+
+/// The sampled locations and their slots, into the first k places of two lists. The scratch is free after it.
+#[inline]
+pub fn round_plan(
+    record: &[u32],
+    list: &[u32],
+    table: &[u8],
+    locations: &mut [u32],
+    terminals: &mut [u32],
+    scratch: &mut [u64],
+) -> Result<(), Refused> {
+    let answer = unsafe {
+        perillajamb_round_plan(
+            record.as_ptr(),
+            record.len(),
+            list.as_ptr(),
+            list.len(),
+            table.as_ptr(),
+            table.len(),
+            locations.as_mut_ptr(),
+            locations.len(),
+            terminals.as_mut_ptr(),
+            terminals.len(),
+            scratch.as_mut_ptr(),
+            scratch.len(),
+        )
+    };
+    decoded_done(answer)
+}
+
+/// Whether a record fits its list and its table: refusal 12's test, as 1 or 0.
+#[inline]
+pub fn round_fits(record: &[u32], list: &[u32], table: &[u8]) -> Result<bool, Refused> {
+    let answer = unsafe {
+        perillajamb_round_fits(
+            record.as_ptr(),
+            record.len(),
+            list.as_ptr(),
+            list.len(),
+            table.as_ptr(),
+            table.len(),
+        )
+    };
+    decoded_truth(answer)
+}
+
+/// An open, calls and the plan after them in one. A call is 0 for an admit, 1 for a join, 2^32 + slot for a withdraw. Each call
+/// and then the plan leaves four answers: the refusal's number or 0, how many values there are, and two places for them.
+#[allow(clippy::too_many_arguments)]
+pub fn round_replay(
+    (key, k, n): (u64, u32, u32),
+    calls: &[u64],
+    list: &mut [u32],
+    table: &mut [u8],
+    answers: &mut [u32],
+    locations: &mut [u32],
+    terminals: &mut [u32],
+    scratch: &mut [u64],
+) -> Result<(), Refused> {
+    let answer = unsafe {
+        perillajamb_round_replay(
+            key,
+            k,
+            n,
+            calls.as_ptr(),
+            calls.len(),
+            list.as_mut_ptr(),
+            list.len(),
+            table.as_mut_ptr(),
+            table.len(),
+            answers.as_mut_ptr(),
+            answers.len(),
+            locations.as_mut_ptr(),
+            locations.len(),
+            terminals.as_mut_ptr(),
+            terminals.len(),
+            scratch.as_mut_ptr(),
+            scratch.len(),
+        )
+    };
+    decoded_done(answer)
 }

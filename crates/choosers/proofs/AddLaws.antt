@@ -14,13 +14,14 @@ use lib.Seq.{getD-set-same, getD-set-other}
 use Rattle.lists.specs.Told.{says}
 use Rattle.lists.specs.Lists.{has, without, firstFrom}
 use Rattle.lists.proofs.Tests.{by-test, by-below, by-same}
+use Rattle.lists.proofs.Tolds.{not-said, said-same}
 use Rattle.lists.proofs.Having.{has-head, has-tail}
 use Rattle.lists.proofs.Searching.{by-first, first-same}
 use Rattle.choosers.specs.declared.node_map.ConsistentNodeMap.{ConsistentNodeMap}
 use Rattle.choosers.specs.Slots.{active, deleted, actives, vacant, slotAmong}
 use Rattle.choosers.specs.SlotCalls.{mapOf, slotLimit, fitting, After, after, refused, addCall}
 use Rattle.choosers.proofs.TableLaws.{active-yes, active-no, active-over, active-byte, active-same, deleted-byte}
-use Rattle.choosers.proofs.SlotCallLaws.{Parts, set-small, not-said, fits-parts, fits-of, add-unfit, add-vacant, add-full, add-limit, add-new}
+use Rattle.choosers.proofs.SlotCallLaws.{Parts, set-small, fits-parts, fits-of, add-unfit, add-vacant, add-full, add-limit, add-new}
 use Rattle.choosers.proofs.SlotLaws.{has-actives, slot-same, slot-put}
 use Rattle.choosers.proofs.ActiveLaws.{Out, out-actives, out-length}
 
@@ -39,9 +40,6 @@ byte-test b h =
     by-same b 0
     (λ e. rw e)
     (λ d. let e : b ≡ 1 = omega arith in rw e)
-
-said : (a b : ℕ) → says a ≡ says b → a ≡ b
-said a b e = cc
 
 module _ (m : ConsistentNodeMap) (t : List ℕ) where
   -- The slot that add takes is the lowest below the count that is not active, else the count.
@@ -131,8 +129,8 @@ module _ (m : ConsistentNodeMap) (t : List ℕ) where
       add-by (λ a. a .told ≡ says x → Adds x a)
       (λ no e. not-said 12 x e)
       (λ ok e. not-said 9 x e)
-      (λ y p v h z e. subst (λ (n : ℕ). Adds n (after (says y) m (set t y 1))) (said y x e) (low-adds y p v h z))
-      (λ p v h l e. subst (λ (n : ℕ). Adds n (after (says (m .total)) (mapOf (m .total + 1)) (set t (m .total) 1))) (said (m .total) x e) (new-adds v h))
+      (λ y p v h z e. subst (λ (n : ℕ). Adds n (after (says y) m (set t y 1))) (said-same y x e) (low-adds y p v h z))
+      (λ p v h l e. subst (λ (n : ℕ). Adds n (after (says (m .total)) (mapOf (m .total + 1)) (set t (m .total) 1))) (said-same (m .total) x e) (new-adds v h))
 
   -- Of an add that says x: x is the slot that `vacant` names, and was not active,
   pub add-vacant-said : (x : ℕ) → addCall m t .told ≡ says x → x ≡ vacant t (m .total)

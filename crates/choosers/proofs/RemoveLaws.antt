@@ -13,12 +13,13 @@ use lib.ListN.{length, getD, set, length-set}
 use lib.Seq.{getD-set-same, getD-set-other}
 use Rattle.lists.specs.Told.{says}
 use Rattle.lists.specs.Lists.{has, without}
+use Rattle.lists.proofs.Tolds.{not-said}
 use Rattle.lists.proofs.Tests.{by-test, by-below, by-same}
 use Rattle.choosers.specs.declared.node_map.ConsistentNodeMap.{ConsistentNodeMap}
 use Rattle.choosers.specs.Slots.{active, actives, slotAmong}
 use Rattle.choosers.specs.SlotCalls.{mapOf, fitting, After, after, refused, removeCall}
 use Rattle.choosers.proofs.TableLaws.{active-no, active-over, active-same, active→}
-use Rattle.choosers.proofs.SlotCallLaws.{Parts, set-small, not-said, fits-parts, fits-of, remove-unfit, remove-none, remove-last, remove-other}
+use Rattle.choosers.proofs.SlotCallLaws.{Parts, set-small, fits-parts, fits-of, remove-unfit, remove-none, remove-last, remove-other}
 use Rattle.choosers.proofs.SlotLaws.{has-actives, slot-out}
 use Rattle.choosers.proofs.ActiveLaws.{Out, out-actives, out-length}
 

@@ -2,7 +2,7 @@
 -- Assumes nothing.
 use mathlib.Core.Path.{_≡_}
 use mathlib.Core.Logic.{_≢_}
-use mathlib.Core.Bool.{true, false, true≢false, _&&_}
+use mathlib.Core.Bool.{true, false, _&&_}
 use mathlib.Core.List.{List}
 use Prim.Native.Nat.{ℕ, _+_, _≤_, _<_}
 use native.Mathlib.Omega.{arith}
@@ -32,10 +32,6 @@ set-small t x b y l h k =
     by-same y x
     (λ e. rw (e, getD-set-same t x b 0 l) h)
     (λ d. rw (getD-set-other t x y b 0 d) (k d))
-
--- a refusal says nothing
-pub not-said : {A C : Type 0} (w : ℕ) (x : A) → refusal w ≡ says x → C
-not-said w x e = let z : true ≡ false = cc in absurd (true≢false z)
 
 module _ (m : ConsistentNodeMap) (t : List ℕ) where
   pub small-parts : fitting m t ≡ true → (m .total ≤ length t) × (m .total ≤ 65536) × (every atMostOne (take (m .total) t) ≡ true)

@@ -5,3 +5,4 @@ pub mod OrderCrossLaws
 pub mod RunLaws
 pub mod ChooserCrossLaws
 pub mod SlotCrossLaws
+pub mod RoundCrossLaws

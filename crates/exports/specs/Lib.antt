@@ -6,3 +6,4 @@ pub mod Orders
 pub mod InnerRuns
 pub mod Chooser
 pub mod Slots
+pub mod Rounds

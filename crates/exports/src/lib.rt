@@ -4,6 +4,7 @@ mod digests;
 mod parts;
 pub mod permutations;
 pub mod reservoirs;
+pub mod round;
 pub mod slots;
 
 ghost use mathlib.Core.Path.{_≡_};

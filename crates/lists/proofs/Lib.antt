@@ -1,5 +1,6 @@
 pub mod Numbers
 pub mod Tests
+pub mod Tolds
 pub mod Places
 pub mod Keeping
 pub mod Members

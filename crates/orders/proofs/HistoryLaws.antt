@@ -9,9 +9,10 @@ use native.Mathlib.Omega.{arith}
 use borrow.Author.Tests.{lt-ltb, le-ltb, ne-eqb, eqb-false}
 use lib.Dec.{eqb}
 use lib.ListN.{length, take}
-use Rattle.lists.specs.Told.{says, refusal}
+use Rattle.lists.specs.Told.{says}
 use Rattle.lists.specs.Lists.{written}
 use Rattle.lists.proofs.Tests.{by-test, by-below}
+use Rattle.lists.proofs.Tolds.{not-said, said-same}
 use Rattle.orders.specs.declared.consistent_reservoir.ConsistentReservoir.{ConsistentReservoir}
 use Rattle.orders.specs.Orders.{P}
 use Rattle.orders.specs.Reservoirs.{grown, held}
@@ -98,18 +99,12 @@ all-reached : (key k : ℕ) (cs : List Call) (t : Tank) → Reached key k t → 
 all-reached key k [] t s = s
 all-reached key k (c ∷ cs) t s = all-reached key k cs (stepBy c t) (step-reached key k c t s)
 
-says-same : {A : Type 0} (x y : A) → says x ≡ says y → x ≡ y
-says-same x y e = cc
-
-refusal-not : {A : Type 0} (c : ℕ) (x : A) → refusal c ≡ says x → ⊥
-refusal-not c x e = let z : _≡_ {A = ℕ} 0 1 = cc in omega arith
-
 -- what an open that was not refused says and leaves
 pub accepted : (k n key : ℕ) (l : List ℕ) (r : ConsistentReservoir) (l′ : List ℕ) → openCall k n key l ≡ afterOpen (says r) l′ → Opens key k n r l′
 accepted k n key l r l′ =
     open-kept (λ o. o ≡ afterOpen (says r) l′ → Opens key k n r l′) k n key l
-    (λ c q. absurd (refusal-not c r (ap (λ (o : AfterOpen). o .told) q)))
-    (λ r₁ l₁ o q. let p : r₁ ≡ r = says-same r₁ r (ap (λ (z : AfterOpen). z .told) q) in
+    (λ c q. not-said c r (ap (λ (o : AfterOpen). o .told) q))
+    (λ r₁ l₁ o q. let p : r₁ ≡ r = said-same r₁ r (ap (λ (z : AfterOpen). z .told) q) in
     let m : l₁ ≡ l′ = ap (λ (z : AfterOpen). z .list) q in
     subst (λ (z : List ℕ). Opens key k n r z) m (subst (λ (z : ConsistentReservoir). Opens key k n z l₁) p o))
 

@@ -13,6 +13,7 @@ use borrow.Author.Tests.{ne-eqb}
 use lib.ListN.{length, take}
 use Rattle.lists.specs.Told.{Told, refusal, says}
 use Rattle.lists.specs.Lists.{has, without, Exchanges}
+use Rattle.lists.proofs.Tolds.{not-said, said-same}
 use Rattle.lists.proofs.Tests.{by-test, by-same}
 use Rattle.lists.proofs.Members.{has-no}
 use Rattle.lists.proofs.Having.{has-head, has-more, has-others}
@@ -62,7 +63,7 @@ unfolding planFrom
 eleven key k n [] e = λ x. refl
 eleven key k n (a ∷ A) e =
     let z : says (map (λ x. sheet x (slotOf key x (a ∷ A))) (take k (P key n))) ≡ refusal 11 = rw (ne-eqb (length (a ∷ A)) 0 (λ z. omega arith)) at e in
-    absurd (let d : true ≡ false = cc in true≢false d)
+    not-said 11 (map (λ x. sheet x (slotOf key x (a ∷ A))) (take k (P key n))) (sym z)
 
 pub eleven-none : (s : State) → Reached s → (p : Told (List Sheet)) → PlanOf s p → p ≡ refusal 11 → (x : ℕ) → active (s .table) (s .round .total) x ≡ false
 eleven-none s r p h e x =
@@ -79,12 +80,6 @@ none-eleven s r p h none-active =
 
 -- ---- what an accepted call leaves
 
-not-refused : (w : ℕ) (vs : List ℕ) → refusal w ≡ says vs → ⊥
-not-refused w vs e = let z : true ≡ false = cc in true≢false z
-
-said-values : (vs ws : List ℕ) → says vs ≡ says ws → vs ≡ ws
-said-values vs ws e = cc
-
 one-value : (x y : ℕ) → x ∷ [] ≡ y ∷ [] → x ≡ y
 one-value x y e = cc
 
@@ -96,8 +91,8 @@ record Accepted (s : State) (x : Call) (vs : List ℕ) : Type 0 where
 accepted : (s : State) → Kept s → (x : Call) (vs : List ℕ) → call s x .told ≡ says vs → Accepted s x vs
 accepted s kept x vs e =
     ⊎-elim
-    (λ (r : Refuses s (shown s (activesOf s)) x (call s x)). absurd (not-refused (possible x) vs (sym (ap (λ (a : After (List ℕ)). a .told) (r .is)) ∙ e)))
-    (λ (t : Takes (shown s (activesOf s)) x (call s x)). record { values = said-values vs (answer (shown s (activesOf s)) x) (sym e ∙ t .told-is); shows = t .shows })
+    (λ (r : Refuses s (shown s (activesOf s)) x (call s x)). not-said (possible x) vs (sym (ap (λ (a : After (List ℕ)). a .told) (r .is)) ∙ e))
+    (λ (t : Takes (shown s (activesOf s)) x (call s x)). record { values = said-same vs (answer (shown s (activesOf s)) x) (sym e ∙ t .told-is); shows = t .shows })
     (outcome s (shown s (activesOf s)) (shows-own s kept) x)
 
 -- the plan of a round that shows a ledger

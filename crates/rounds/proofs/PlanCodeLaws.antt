@@ -9,8 +9,9 @@ use native.Mathlib.Omega.{arith}
 use borrow.Author.Tests.{lt-ltb, le-ltb}
 use lib.Dec.{eqb}
 use lib.ListN.{length}
-use Rattle.lists.specs.Told.{Told, refusal, says}
+use Rattle.lists.specs.Told.{refusal, says}
 use Rattle.lists.specs.Lists.{written}
+use Rattle.lists.proofs.Tolds.{not-said, refusal-same}
 use Rattle.lists.proofs.Tests.{by-test}
 use Rattle.orders.specs.ReservoirCalls.{sample}
 use Rattle.orders.proofs.CheckLaws.{fits-parts}
@@ -18,7 +19,6 @@ use Rattle.choosers.specs.declared.node_map.Truth.{Truth}
 use Rattle.choosers.specs.declared.node_map.Truth.the-variants as truth
 use Rattle.choosers.specs.Slots.{actives, stateOf}
 use Rattle.choosers.specs.SlotCalls.{slotLimit, toldTruth}
-use Rattle.choosers.proofs.SlotCallLaws.{not-said}
 use Rattle.choosers.proofs.GetLaws.{look-all}
 use Rattle.rounds.specs.declared.round.Round.{Round}
 use Rattle.rounds.specs.Rounds.{reservoirOf, mapOf, state, fitting}
@@ -27,9 +27,6 @@ use Rattle.rounds.specs.InnerRounds.{idleOf, dealtTo}
 use Rattle.rounds.proofs.RoundCallLaws.{fits-both}
 
 -- ---- whether the record fits, and whether no slot is active
-
-same-refusal : (v w : ℕ) → _≡_ {A = Told Bool} (refusal v) (refusal w) → v ≡ w
-same-refusal v w e = cc
 
 same-truth : (a b : Bool) → says a ≡ says b → a ≡ b
 same-truth a b e = cc
@@ -53,7 +50,7 @@ module _ (r : Round) (l t : List ℕ) (b : Truth) (told : toldTruth b ≡ idleOf
       let s : refusal w ≡ idleOf (state r l t) = ap toldTruth (sym e) ∙ told in
       by-test (fitting (state r l t))
       (λ y. not-said w _ (rw y at s))
-      (λ m. (m, same-refusal w 12 (rw m at s)))
+      (λ m. (m, refusal-same w 12 (rw m at s)))
 
 -- the sample is k long, so there is room for it
 pub deal-room : (r : Round) (l t ls ts : List ℕ) (idle : Bool) → Ready r l t idle → r .k ≤ length ls → r .k ≤ length ts

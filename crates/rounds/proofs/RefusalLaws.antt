@@ -2,13 +2,14 @@
 -- Assumes nothing.
 use mathlib.Core.Path.{_≡_, sym, ap, _∙_}
 use mathlib.Core.Logic.{⊎-elim, _≢_}
-use mathlib.Core.Bool.{true, false, true≢false, _||_}
+use mathlib.Core.Bool.{true, false, _||_}
 use mathlib.Core.List.{List}
 use Prim.Native.Nat.{ℕ, _≤_, min}
 use native.Mathlib.Omega.{arith}
 use lib.Dec.{ltb, eqb}
 use lib.ListN.{length}
-use Rattle.lists.specs.Told.{Told, refusal, says}
+use Rattle.lists.specs.Told.{refusal, says}
+use Rattle.lists.proofs.Tolds.{not-said, refusal-same}
 use Rattle.lists.proofs.Tests.{by-cond}
 use Rattle.choosers.specs.Slots.{stateOf, slotOf}
 use Rattle.choosers.specs.SlotCalls as Slots
@@ -29,12 +30,6 @@ reached-outcome s r x = outcome s (shown s (activesOf s)) (shows-own s (reached-
 
 -- ---- never 12
 
-same-number : (a b : ℕ) → _≡_ {A = Told (List ℕ)} (refusal a) (refusal b) → a ≡ b
-same-number a b e = cc
-
-said-not : (vs : List ℕ) (w : ℕ) → _≡_ {A = Told (List ℕ)} (says vs) (refusal w) → ⊥
-said-not vs w e = let z : true ≡ false = cc in true≢false z
-
 possible-not : (x : Call) → possible x ≡ 12 → ⊥
 possible-not admit e = omega arith
 possible-not join e = omega arith
@@ -44,15 +39,9 @@ possible-not (withdraw x) e = omega arith
 pub never-12 : (s : State) → Reached s → (x : Call) → call s x .told ≢ refusal 12
 never-12 s r x e =
     ⊎-elim
-    (λ (h : Refuses s (shown s (activesOf s)) x (call s x)). possible-not x (same-number (possible x) 12 (sym (ap (λ (a : After (List ℕ)). a .told) (h .is)) ∙ e)))
-    (λ (h : Takes (shown s (activesOf s)) x (call s x)). said-not (answer (shown s (activesOf s)) x) 12 (sym (h .told-is) ∙ e))
+    (λ (h : Refuses s (shown s (activesOf s)) x (call s x)). possible-not x (refusal-same (possible x) 12 (sym (ap (λ (a : After (List ℕ)). a .told) (h .is)) ∙ e)))
+    (λ (h : Takes (shown s (activesOf s)) x (call s x)). not-said 12 (answer (shown s (activesOf s)) x) (sym e ∙ h .told-is))
     (reached-outcome s r x)
-
-plan-not : (a b : ℕ) → (a ≡ b → ⊥) → _≡_ {A = Told (Unit {0})} (refusal a) (refusal b) → ⊥
-plan-not a b d e = d (let z : a ≡ b = cc in z)
-
-done-not : (b : ℕ) → _≡_ {A = Told (Unit {0})} (says tt) (refusal b) → ⊥
-done-not b e = let z : true ≡ false = cc in true≢false z
 
 -- and no plan, whatever it is lent.
 pub plan-never-12 : (s : State) → Reached s → (ls ts : List ℕ) (places : ℕ) → planCall s ls ts places .told ≢ refusal 12
@@ -61,10 +50,10 @@ plan-never-12 s r ls ts places =
     rw (fits-kept s (reached-kept s r))
     (by-cond (λ (a : AfterPlan). a .told ≢ refusal 12)
     (ltb (length ls) (s .round .k) || ltb (length ts) (s .round .k) || ltb places (min (length (s .table)) Slots.slotLimit)) _ _
-    (λ y. plan-not 4 12 (λ e. omega arith))
+    (λ y e. let z : 4 ≡ 12 = refusal-same 4 12 e in omega arith)
     (λ n. by-cond (λ (a : AfterPlan). a .told ≢ refusal 12) (eqb (length (activesOf s)) 0) _ _
-    (λ y. plan-not 11 12 (λ e. omega arith))
-    (λ n. done-not 12)))
+    (λ y e. let z : 11 ≡ 12 = refusal-same 11 12 e in omega arith)
+    (λ n e. not-said 12 tt (sym e))))
 
 -- ---- the plan's slots are get's
 

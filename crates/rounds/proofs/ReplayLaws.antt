@@ -2,7 +2,7 @@
 -- Assumes nothing.
 use mathlib.Core.Path.{_≡_, refl, sym, ap, subst, _∙_}
 use mathlib.Core.Logic.{⊎-elim, _≢_}
-use mathlib.Core.Bool.{true, false, true≢false, _||_}
+use mathlib.Core.Bool.{_||_}
 use mathlib.Core.List.{List, [], _∷_, _++_, map, append-assoc}
 use Prim.Native.Nat.{ℕ, _+_, _*_, min}
 use native.Mathlib.Omega.{arith}
@@ -11,6 +11,7 @@ use lib.Dec.{ltb, eqb}
 use lib.ListN.{length, drop, length-map}
 use Rattle.lists.specs.Told.{Told, refusal, says, mapTold}
 use Rattle.lists.specs.Lists.{every, written}
+use Rattle.lists.proofs.Tolds.{not-said}
 use Rattle.lists.proofs.Tests.{by-below, by-cond}
 use Rattle.lists.proofs.Writing.{length-written}
 use Rattle.orders.proofs.ReservoirLaws.{sample-length}
@@ -152,7 +153,7 @@ module _ (key k n : ℕ) (codes t ws ls ts : List ℕ) (places : ℕ) where
   Good a = a .told ≡ says tt → ByLedger key k n (map callOf codes) (length t) places (a .answers) (a .locations) (a .terminals)
 
   refused-good : (w : ℕ) (a : AfterReplay) → a .told ≡ refusal w → Good a
-  refused-good w a e q = let z : _≡_ {A = Told (Unit {0})} (refusal w) (says tt) = sym e ∙ q in absurd (let d : true ≡ false = cc in true≢false d)
+  refused-good w a e q = not-said w tt (sym e ∙ q)
 
   opened-good : (o : AfterOpen) (l : List ℕ) → openCall key k n l ≡ o → Good (openedRun (o .told) (o .list) t (map callOf codes) ws ls ts places)
   unfolding runOf

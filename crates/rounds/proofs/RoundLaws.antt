@@ -10,11 +10,11 @@ use Rattle.orders.specs.declared.consistent_reservoir.ConsistentReservoir.{Cons
 use Rattle.orders.proofs.ReservoirLaws as List
 use Rattle.choosers.specs.Slots.{actives}
 use Rattle.choosers.specs.SlotCalls as Slots
-use Rattle.choosers.proofs.SlotCallLaws.{not-said, new-fits}
-use Rattle.rounds.specs.declared.round.Round.{Round}
+use Rattle.choosers.proofs.SlotCallLaws.{new-fits}
 use Rattle.rounds.specs.Rounds.{reservoirOf, mapOf, roundOf, State, state, fitting, AfterOpen, afterOpen, openCall}
 use Rattle.rounds.specs.Ledgers.{Ledger, ledger, firstLedger}
 use Rattle.rounds.specs.Histories.{Opens}
+use Rattle.lists.proofs.Tolds.{not-said, said-same}
 use Rattle.lists.proofs.Sets.{Same}
 
 -- the record against its memory
@@ -47,9 +47,6 @@ fits-kept s kept = rw (List.fitting-kept (reservoirOf (s .round)) (s .list) (kep
 
 -- ---- an accepted open begins so
 
-said-is : (r r′ : Round) → says r ≡ says r′ → r ≡ r′
-said-is r r′ e = cc
-
 none-active : (t : List ℕ) → actives t 0 ≡ []
 unfolding actives
 none-active t = refl
@@ -59,7 +56,7 @@ unfolding openCall
 open-shows key k n s o =
     List.open-kept (λ a. afterOpen (mapTold (λ r. roundOf r (Slots.mapOf 0)) (a .told)) (a .list) ≡ afterOpen (says (s .round)) (s .list) → Shows s (firstLedger key k n)) k n key (o .lent)
     (λ w e. not-said w (s .round) (ap (λ (a : AfterOpen). a .told) e))
-    (λ r l q e. let is-round : roundOf r (Slots.mapOf 0) ≡ s .round = said-is (roundOf r (Slots.mapOf 0)) (s .round) (ap (λ (a : AfterOpen). a .told) e) in
+    (λ r l q e. let is-round : roundOf r (Slots.mapOf 0) ≡ s .round = said-same (roundOf r (Slots.mapOf 0)) (s .round) (ap (λ (a : AfterOpen). a .told) e) in
     let is-list : l ≡ s .list = ap (λ (a : AfterOpen). a .list) e in
     subst (λ (u : State). Shows u (firstLedger key k n)) (λ i. state (is-round i) (is-list i) (s .table)) (begins r l (s .table) q))
     (o .accepted)

@@ -5,6 +5,8 @@ use crate::calls;
 use crate::chooser_calls;
 use crate::choosings;
 use crate::histories;
+use crate::round_histories;
+use crate::round_replays;
 use crate::slot_calls;
 use crate::slot_histories;
 use crate::slot_lookups;
@@ -86,6 +88,8 @@ impl Fields {
             b'k' => choosings::with_k_agrees(self),
             b'e' => slot_lookups::agrees(self),
             b'j' => slot_histories::agrees(self),
+            b'h' => round_histories::agrees(self),
+            b'b' => round_replays::agrees(self),
             b'u' => exports::slots::perillajamb_location_state(v[1], word(v[2])) == v[3],
             b'C' | b'K' | b'W' | b'Y' | b'D' | b'I' => chooser_calls::agrees(self),
             b'J' | b'L' | b'Q' | b'E' => slot_calls::agrees(self),

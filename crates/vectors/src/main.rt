@@ -6,6 +6,8 @@ mod fields;
 mod histories;
 mod longs;
 mod memory;
+mod round_histories;
+mod round_replays;
 mod slot_calls;
 mod slot_histories;
 mod slot_lookups;
@@ -125,4 +127,5 @@ fn main() {
     replay_file(b"slots.txt", b"slots: ");
     replay_file(b"handmade_choosers.txt", b"handmade_choosers: ");
     replay_file(b"handmade_slots.txt", b"handmade_slots: ");
+    replay_file(b"rounds.txt", b"rounds: ");
 }
