@@ -187,6 +187,25 @@ extern "C" {
     ) -> u64;
 }
 
+/// A C function called: a number goes as it is, `mut x` and `ref x` as the pointer and the length of a slice.
+macro_rules! call {
+    (@ $function:ident [$($given:expr,)*]) => {
+        unsafe { $function($($given),*) }
+    };
+    (@ $function:ident [$($given:expr,)*] mut $slice:ident, $($rest:tt)*) => {
+        call!(@ $function [$($given,)* $slice.as_mut_ptr(), $slice.len(),] $($rest)*)
+    };
+    (@ $function:ident [$($given:expr,)*] ref $slice:ident, $($rest:tt)*) => {
+        call!(@ $function [$($given,)* $slice.as_ptr(), $slice.len(),] $($rest)*)
+    };
+    (@ $function:ident [$($given:expr,)*] $number:ident, $($rest:tt)*) => {
+        call!(@ $function [$($given,)* $number,] $($rest)*)
+    };
+    ($function:ident, $($given:tt)*) => {
+        call!(@ $function [] $($given)*,)
+    };
+}
+
 /// A refusal, by document 01's number.
 #[derive(Clone, Copy, Debug, PartialEq, Eq)]
 pub struct Refused(pub u32);
@@ -312,14 +331,13 @@ pub fn rising_digest(state: u64, n: u64) -> Result<u64, Refused> {
 
 /// A new order in the first 18 words lent: the key's low half and high half, n, the fifteen counters.
 pub fn order_new(n: u32, key: u64, order: &mut [u32]) -> Result<(), Refused> {
-    let answer = unsafe { perillajamb_order_new(n, key, order.as_mut_ptr(), order.len()) };
-    decoded_done(answer)
+    decoded_done(call!(perillajamb_order_new, n, key, mut order))
 }
 
 /// The next number of an order, or none.
 #[inline]
 pub fn order_next(order: &mut [u32]) -> Result<Option<u32>, Refused> {
-    let answer = unsafe { perillajamb_order_next(order.as_mut_ptr(), order.len()) };
+    let answer = call!(perillajamb_order_next, mut order);
     Ok(decoded_found(answer)?.map(|x| u32::try_from(x).unwrap()))
 }
 
@@ -338,74 +356,49 @@ pub fn reservoir_new(
     list: &mut [u32],
     record: &mut [u32],
 ) -> Result<(), Refused> {
-    let answer = unsafe {
-        perillajamb_reservoir_new(
-            k,
-            n,
-            key,
-            list.as_mut_ptr(),
-            list.len(),
-            record.as_mut_ptr(),
-            record.len(),
-        )
-    };
-    decoded_done(answer)
+    decoded_done(call!(
+        perillajamb_reservoir_new,
+        k,
+        n,
+        key,
+        mut list,
+        mut record
+    ))
 }
 
 /// An admit: the number that comes in and the one that goes out, or none. They come as in * 2^32 + out.
 #[inline]
 pub fn reservoir_next(record: &mut [u32], list: &mut [u32]) -> Result<Option<(u32, u32)>, Refused> {
-    let answer = unsafe {
-        perillajamb_reservoir_next(
-            record.as_mut_ptr(),
-            record.len(),
-            list.as_mut_ptr(),
-            list.len(),
-        )
-    };
-    decoded_pair(answer)
+    decoded_pair(call!(perillajamb_reservoir_next, mut record, mut list))
 }
 
 pub fn reservoir_grow_layer(record: &mut [u32], list: &mut [u32]) -> Result<(), Refused> {
-    let answer = unsafe {
-        perillajamb_reservoir_grow_layer(
-            record.as_mut_ptr(),
-            record.len(),
-            list.as_mut_ptr(),
-            list.len(),
-        )
-    };
-    decoded_done(answer)
+    decoded_done(call!(
+        perillajamb_reservoir_grow_layer,
+        mut record,
+        mut list
+    ))
 }
 
 /// The sample, into the first k places of `out`.
 pub fn reservoir_sample(record: &[u32], list: &[u32], out: &mut [u32]) -> Result<(), Refused> {
-    let answer = unsafe {
-        perillajamb_reservoir_sample(
-            record.as_ptr(),
-            record.len(),
-            list.as_ptr(),
-            list.len(),
-            out.as_mut_ptr(),
-            out.len(),
-        )
-    };
-    decoded_done(answer)
+    decoded_done(call!(
+        perillajamb_reservoir_sample,
+        ref record,
+        ref list,
+        mut out
+    ))
 }
 
 /// Whether a record fits its list: refusal 12's test, as 1 or 0.
 #[inline]
 pub fn reservoir_fits(record: &[u32], list: &[u32]) -> Result<bool, Refused> {
-    let answer = unsafe {
-        perillajamb_reservoir_fits(record.as_ptr(), record.len(), list.as_ptr(), list.len())
-    };
-    decoded_truth(answer)
+    decoded_truth(call!(perillajamb_reservoir_fits, ref record, ref list))
 }
 
 /// A new chooser in the first three words lent: the state, n, and k, which is 0.
 pub fn chooser_new(state: u64, n: u64, record: &mut [u64]) -> Result<(), Refused> {
-    let answer = unsafe { perillajamb_chooser_new(state, n, record.as_mut_ptr(), record.len()) };
-    decoded_done(answer)
+    decoded_done(call!(perillajamb_chooser_new, state, n, mut record))
 }
 
 /// A new chooser with k samples, which come into the first k places of a list.
@@ -417,95 +410,63 @@ pub fn chooser_new_with_k(
     list: &mut [u64],
     record: &mut [u64],
 ) -> Result<(), Refused> {
-    let answer = unsafe {
-        perillajamb_chooser_new_with_k(
-            state,
-            n,
-            k,
-            list.as_mut_ptr(),
-            list.len(),
-            record.as_mut_ptr(),
-            record.len(),
-        )
-    };
-    decoded_done(answer)
+    decoded_done(call!(
+        perillajamb_chooser_new_with_k,
+        state,
+        n,
+        k,
+        mut list,
+        mut record
+    ))
 }
 
 /// The index of the sample that comes in.
 pub fn chooser_grow_k(record: &mut [u64], list: &mut [u64]) -> Result<u64, Refused> {
-    let answer = unsafe {
-        perillajamb_chooser_grow_k(
-            record.as_mut_ptr(),
-            record.len(),
-            list.as_mut_ptr(),
-            list.len(),
-        )
-    };
-    decoded_number(answer)
+    decoded_number(call!(perillajamb_chooser_grow_k, mut record, mut list))
 }
 
 /// The sample that comes in, or none.
 pub fn chooser_next(record: &mut [u64], list: &mut [u64]) -> Result<Option<u64>, Refused> {
-    let answer = unsafe {
-        perillajamb_chooser_next(
-            record.as_mut_ptr(),
-            record.len(),
-            list.as_mut_ptr(),
-            list.len(),
-        )
-    };
-    decoded_found(answer)
+    decoded_found(call!(perillajamb_chooser_next, mut record, mut list))
 }
 
 /// The index of the sample that comes in.
 pub fn chooser_shrink_n(record: &mut [u64], list: &mut [u64]) -> Result<u64, Refused> {
-    let answer = unsafe {
-        perillajamb_chooser_shrink_n(
-            record.as_mut_ptr(),
-            record.len(),
-            list.as_mut_ptr(),
-            list.len(),
-        )
-    };
-    decoded_number(answer)
+    decoded_number(call!(perillajamb_chooser_shrink_n, mut record, mut list))
 }
 
 /// Whether a record fits its list: refusal 12's test, as 1 or 0.
 pub fn chooser_fits(record: &[u64], list: &[u64]) -> Result<bool, Refused> {
-    let answer = unsafe {
-        perillajamb_chooser_fits(record.as_ptr(), record.len(), list.as_ptr(), list.len())
-    };
-    decoded_truth(answer)
+    decoded_truth(call!(perillajamb_chooser_fits, ref record, ref list))
 }
 
 /// The count after it and the slot. They come as count * 2^32 + slot.
 pub fn slots_add(total: u32, table: &mut [u8]) -> Result<(u32, u32), Refused> {
-    let answer = unsafe { perillajamb_slots_add(total, table.as_mut_ptr(), table.len()) };
+    let answer = call!(perillajamb_slots_add, total, mut table);
     decoded_number(answer).map(|pair| ((pair >> 32) as u32, pair as u32))
 }
 
 /// The count after it.
 pub fn slots_remove(total: u32, table: &mut [u8], slot: u32) -> Result<u32, Refused> {
-    let answer = unsafe { perillajamb_slots_remove(total, table.as_mut_ptr(), table.len(), slot) };
-    decoded_slot(answer)
+    decoded_slot(call!(perillajamb_slots_remove, total, mut table, slot))
 }
 
 /// How many slots are active.
 pub fn slots_len(total: u32, table: &[u8]) -> Result<u32, Refused> {
-    decoded_slot(unsafe { perillajamb_slots_len(total, table.as_ptr(), table.len()) })
+    decoded_slot(call!(perillajamb_slots_len, total, ref table))
 }
 
 pub fn slots_is_empty(total: u32, table: &[u8]) -> Result<bool, Refused> {
-    decoded_truth(unsafe { perillajamb_slots_is_empty(total, table.as_ptr(), table.len()) })
+    decoded_truth(call!(perillajamb_slots_is_empty, total, ref table))
 }
 
 pub fn slots_is_active(total: u32, table: &[u8], slot: u32) -> Result<bool, Refused> {
-    decoded_truth(unsafe { perillajamb_slots_is_active(total, table.as_ptr(), table.len(), slot) })
+    decoded_truth(call!(perillajamb_slots_is_active, total, ref table, slot))
 }
 
 /// Whether a count fits its table: refusal 12's test, as 1 or 0.
 pub fn slots_fits(total: u32, table: &[u8]) -> Result<bool, Refused> {
-    decoded_truth(unsafe { perillajamb_slots_fits(total, table.as_ptr(), table.len()) })
+    decoded_truth(call!(perillajamb_slots_fits, total, ref table))
 }
 
 /// The slot of a state. The scratch is free after it.
@@ -516,32 +477,25 @@ pub fn slots_get(
     state: u64,
     scratch: &mut [u64],
 ) -> Result<u32, Refused> {
-    let answer = unsafe {
-        perillajamb_slots_get(
-            total,
-            table.as_ptr(),
-            table.len(),
-            state,
-            scratch.as_mut_ptr(),
-            scratch.len(),
-        )
-    };
-    decoded_slot(answer)
+    decoded_slot(call!(
+        perillajamb_slots_get,
+        total,
+        ref table,
+        state,
+        mut scratch
+    ))
 }
 
 /// The same without the record's tests: the first active slot among as many of the choice order as the scratch has places.
 #[inline]
 pub fn first_active(total: u32, table: &[u8], state: u64, scratch: &mut [u64]) -> Option<u32> {
-    let answer = unsafe {
-        perillajamb_first_active(
-            total,
-            table.as_ptr(),
-            table.len(),
-            state,
-            scratch.as_mut_ptr(),
-            scratch.len(),
-        )
-    };
+    let answer = call!(
+        perillajamb_first_active,
+        total,
+        ref table,
+        state,
+        mut scratch
+    );
     let found = decoded_found(answer).expect("a slot or missing, no refusal");
     found.map(|slot| u32::try_from(slot).unwrap())
 }
@@ -561,18 +515,14 @@ pub fn round_open(
     list: &mut [u32],
     record: &mut [u32],
 ) -> Result<(), Refused> {
-    let answer = unsafe {
-        perillajamb_round_open(
-            key,
-            k,
-            n,
-            list.as_mut_ptr(),
-            list.len(),
-            record.as_mut_ptr(),
-            record.len(),
-        )
-    };
-    decoded_done(answer)
+    decoded_done(call!(
+        perillajamb_round_open,
+        key,
+        k,
+        n,
+        mut list,
+        mut record
+    ))
 }
 
 /// The location that comes in and the one that goes out, or none. They come as in * 2^32 + out.
@@ -582,33 +532,23 @@ pub fn round_admit(
     list: &mut [u32],
     table: &[u8],
 ) -> Result<Option<(u32, u32)>, Refused> {
-    let answer = unsafe {
-        perillajamb_round_admit(
-            record.as_mut_ptr(),
-            record.len(),
-            list.as_mut_ptr(),
-            list.len(),
-            table.as_ptr(),
-            table.len(),
-        )
-    };
-    decoded_pair(answer)
+    decoded_pair(call!(
+        perillajamb_round_admit,
+        mut record,
+        mut list,
+        ref table
+    ))
 }
 
 /// The terminal's slot.
 #[inline]
 pub fn round_join(record: &mut [u32], list: &[u32], table: &mut [u8]) -> Result<u32, Refused> {
-    let answer = unsafe {
-        perillajamb_round_join(
-            record.as_mut_ptr(),
-            record.len(),
-            list.as_ptr(),
-            list.len(),
-            table.as_mut_ptr(),
-            table.len(),
-        )
-    };
-    decoded_slot(answer)
+    decoded_slot(call!(
+        perillajamb_round_join,
+        mut record,
+        ref list,
+        mut table
+    ))
 }
 
 #[inline]
@@ -618,18 +558,13 @@ pub fn round_withdraw(
     table: &mut [u8],
     slot: u32,
 ) -> Result<(), Refused> {
-    let answer = unsafe {
-        perillajamb_round_withdraw(
-            record.as_mut_ptr(),
-            record.len(),
-            list.as_ptr(),
-            list.len(),
-            table.as_mut_ptr(),
-            table.len(),
-            slot,
-        )
-    };
-    decoded_done(answer)
+    decoded_done(call!(
+        perillajamb_round_withdraw,
+        mut record,
+        ref list,
+        mut table,
+        slot
+    ))
 }
 
 /// The sampled locations and their slots, into the first k places of two lists. The scratch is free after it.
@@ -642,39 +577,26 @@ pub fn round_plan(
     terminals: &mut [u32],
     scratch: &mut [u64],
 ) -> Result<(), Refused> {
-    let answer = unsafe {
-        perillajamb_round_plan(
-            record.as_ptr(),
-            record.len(),
-            list.as_ptr(),
-            list.len(),
-            table.as_ptr(),
-            table.len(),
-            locations.as_mut_ptr(),
-            locations.len(),
-            terminals.as_mut_ptr(),
-            terminals.len(),
-            scratch.as_mut_ptr(),
-            scratch.len(),
-        )
-    };
-    decoded_done(answer)
+    decoded_done(call!(
+        perillajamb_round_plan,
+        ref record,
+        ref list,
+        ref table,
+        mut locations,
+        mut terminals,
+        mut scratch
+    ))
 }
 
 /// Whether a record fits its list and its table: refusal 12's test, as 1 or 0.
 #[inline]
 pub fn round_fits(record: &[u32], list: &[u32], table: &[u8]) -> Result<bool, Refused> {
-    let answer = unsafe {
-        perillajamb_round_fits(
-            record.as_ptr(),
-            record.len(),
-            list.as_ptr(),
-            list.len(),
-            table.as_ptr(),
-            table.len(),
-        )
-    };
-    decoded_truth(answer)
+    decoded_truth(call!(
+        perillajamb_round_fits,
+        ref record,
+        ref list,
+        ref table
+    ))
 }
 
 /// An open, calls and the plan after them in one. A call is 0 for an admit, 1 for a join, 2^32 + slot for a withdraw. Each call
@@ -690,26 +612,17 @@ pub fn round_replay(
     terminals: &mut [u32],
     scratch: &mut [u64],
 ) -> Result<(), Refused> {
-    let answer = unsafe {
-        perillajamb_round_replay(
-            key,
-            k,
-            n,
-            calls.as_ptr(),
-            calls.len(),
-            list.as_mut_ptr(),
-            list.len(),
-            table.as_mut_ptr(),
-            table.len(),
-            answers.as_mut_ptr(),
-            answers.len(),
-            locations.as_mut_ptr(),
-            locations.len(),
-            terminals.as_mut_ptr(),
-            terminals.len(),
-            scratch.as_mut_ptr(),
-            scratch.len(),
-        )
-    };
-    decoded_done(answer)
+    decoded_done(call!(
+        perillajamb_round_replay,
+        key,
+        k,
+        n,
+        ref calls,
+        mut list,
+        mut table,
+        mut answers,
+        mut locations,
+        mut terminals,
+        mut scratch
+    ))
 }
