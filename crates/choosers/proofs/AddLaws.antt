@@ -34,6 +34,9 @@ by-vacant t c f g =
     f (omega arith) (ap (λ (x : ℕ). getD t x 0) v ∙ eqb-true (getD t i 0) 0 (sym (deleted-byte t c i (omega arith)) ∙ y)))
     (λ e b. g (ap (λ (o : Option ℕ). Option·getD o c) e))
 
+pub vacant-le : (t : List ℕ) (c : ℕ) → vacant t c ≤ c
+vacant-le t c = by-vacant t c (λ h z. omega arith) (λ e. omega arith)
+
 -- a byte of 0 or 1 is 0 where it is not 1
 byte-test : (b : ℕ) → b ≤ 1 → eqb b 0 ≡ not (eqb b 1)
 byte-test b h =

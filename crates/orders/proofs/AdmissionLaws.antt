@@ -23,7 +23,7 @@ use Rattle.lists.proofs.Searching.{by-first}
 use Rattle.orders.specs.declared.consistent_reservoir.ConsistentReservoir.{ConsistentReservoir}
 use Rattle.orders.specs.Orders.{P}
 use Rattle.orders.specs.Reservoirs.{incoming, outputs, upToZeros, grown, wider, held, due, kth}
-use Rattle.orders.specs.ReservoirCalls.{keyOf, jOf, listed, sample, reservoirOf, After, after, refused, exchangeBy, exchange, admitAt, admitCall}
+use Rattle.orders.specs.ReservoirCalls.{keyOf, jOf, listed, sample, fitting, reservoirOf, After, after, refused, exchangeBy, exchange, admitAt, admitCall}
 use Rattle.orders.proofs.LogLaws.{pow-up}
 use Rattle.orders.proofs.OrderLaws.{zero-top, low-outputs}
 use Rattle.orders.proofs.HeldLaws.{heldAt, inputsAt, Comes, comes, waits, held-long, grow-through, grow-to, grow-none}
@@ -195,6 +195,11 @@ module _ (r : ConsistentReservoir) (l : List ℕ) (s : Kept r l) (full : r .used
       (λ f z. subst (λ (o : Option ℕ). Short r l (admitAt r l o) ⊎ Admits r (admitAt r l o)) (sym f) (inr (none-kept z)))
 
 -- ---- admit
+
+-- a record that does not fit its list
+pub admit-unfit : (r : ConsistentReservoir) (l : List ℕ) → fitting r l ≡ false → admitCall r l ≡ refused 12 r l
+unfolding admitCall
+admit-unfit r l e = rw e
 
 -- refused 4 for a list that is too short, else as the number that is due says
 pub admit-kept : (r : ConsistentReservoir) (l : List ℕ) → Kept r l → Short r l (admitCall r l) ⊎ Admits r (admitCall r l)

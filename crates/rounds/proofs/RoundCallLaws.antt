@@ -14,6 +14,7 @@ use Rattle.orders.specs.declared.consistent_reservoir.Opened.{Opened}
 use Rattle.orders.specs.declared.consistent_reservoir.Opened.the-variants as opened
 use Rattle.orders.specs.declared.consistent_reservoir.Admitted.{Admitted}
 use Rattle.orders.specs.ReservoirCalls as Reservoir
+use Rattle.orders.proofs.AdmissionLaws.{admit-unfit}
 use Rattle.choosers.specs.declared.node_map.ConsistentNodeMap.{ConsistentNodeMap}
 use Rattle.choosers.specs.declared.node_map.Added.{Added}
 use Rattle.choosers.specs.declared.node_map.Removed.{Removed}
@@ -83,17 +84,13 @@ module _ (r : Round) (l t : List ℕ) where
   unfolding admitCall
   admit-refused e = rw (table-unfit e)
 
-  list-refused : Reservoir.fitting (reservoirOf r) l ≡ false → Reservoir.admitCall (reservoirOf r) l ≡ Reservoir.refused 12 (reservoirOf r) l
-  unfolding Reservoir.admitCall
-  list-refused e = rw e
-
   -- the table fits: the reservoir's call tests the list
   admit-by : Slots.fitting (mapOf r) t ≡ true → byReservoir (state r l t) (Reservoir.admitCall (reservoirOf r) l) ≡ admitCall (state r l t)
   unfolding admitCall
   admit-by ok =
       by-test (Reservoir.fitting (reservoirOf r) l)
       (λ y. rw (table-fit ok, y))
-      (λ m. rw (table-fit ok, m, list-refused m))
+      (λ m. rw (table-fit ok, m, admit-unfit (reservoirOf r) l m))
 
   pub admit-code : Slots.fitting (mapOf r) t ≡ true → (a : ConsistentReservoir) (b : Admitted) (after : List ℕ) (s : Round)
       → a ≡ reservoirOf r → Reservoir.admitted b after ≡ Reservoir.admitCall a l → s ≡ withReservoir r (b .reservoir)

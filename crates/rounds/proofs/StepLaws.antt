@@ -15,15 +15,15 @@ use lib.ListN.{length}
 use Rattle.lists.specs.Told.{Told, says, mapTold}
 use Rattle.lists.specs.Lists.{has, without}
 use Rattle.lists.proofs.Tests.{by-test, by-below, by-same, by-cond}
-use Rattle.lists.proofs.Searching.{by-first, first-same}
+use Rattle.lists.proofs.Searching.{first-same}
 use Rattle.orders.specs.ReservoirCalls as Reservoir
 use Rattle.orders.proofs.AdmissionLaws.{inOut, reachedBy, Short, Admits, admit-kept}
 use Rattle.choosers.specs.declared.node_map.ConsistentNodeMap.{ConsistentNodeMap}
-use Rattle.choosers.specs.Slots.{active, deleted, vacant}
+use Rattle.choosers.specs.Slots.{active, vacant}
 use Rattle.choosers.specs.SlotCalls as Slots
 use Rattle.choosers.proofs.SlotCallLaws.{remove-none}
 use Rattle.choosers.proofs.SlotLaws.{has-actives}
-use Rattle.choosers.proofs.AddLaws.{vacant-outside, add-room, add-no-room, add-actives, add-count, add-fits, add-bytes}
+use Rattle.choosers.proofs.AddLaws.{vacant-le, vacant-outside, add-room, add-no-room, add-actives, add-count, add-fits, add-bytes}
 use Rattle.choosers.proofs.RemoveLaws.{remove-active, remove-actives, remove-count, remove-fits, remove-bytes}
 use Rattle.rounds.specs.Rounds.{reservoirOf, mapOf, State, state, fitting, After, refused, byReservoir, bySlots, admitCall, joinCall, withdrawCall}
 use Rattle.rounds.specs.Ledgers.{Call, admit, join, withdraw, Ledger, ledger, nAfter, dueIn, freeSlot, accept, inAndOut, answer, fed}
@@ -107,13 +107,6 @@ module _ (s : State) (A : List ℕ) (set : Same (activesOf s) A) (kept : Kept s)
   abbrev v : ℕ
   v = vacant (s .table) (s .round .total)
 
-  vacant-le : v ≤ s .round .total
-  unfolding vacant
-  vacant-le =
-      by-first (deleted (s .table) (s .round .total)) 0 (s .round .total)
-      (λ i e l h y b. rw e (omega arith))
-      (λ e b. rw e (omega arith))
-
   -- the lowest deleted slot is the lowest below the count outside A
   vacant-free : v ≡ freeSlot g
   unfolding freeSlot
@@ -127,7 +120,7 @@ module _ (s : State) (A : List ℕ) (set : Same (activesOf s) A) (kept : Kept s)
       rw (← vacant-free)
       (by-same v (s .round .total)
       (λ e. rw (eq-eqb v (s .round .total) e) (omega arith))
-      (λ d. rw (ne-eqb v (s .round .total) d) (omega (arith, vacant-le))))
+      (λ d. rw (ne-eqb v (s .round .total) d) (omega (arith, vacant-le (s .table) (s .round .total)))))
 
   join-takes : v < min (length (s .table)) Slots.slotLimit → Takes g join (valued slotSaid (bySlots s (Slots.addCall m (s .table))))
   unfolding accept answer
