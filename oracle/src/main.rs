@@ -1,6 +1,7 @@
 //! Prints answers of the original for stated inputs, a line each: a letter, then numbers in hexadecimal.
 //!
-//! oracle SET: the answers of that set. oracle expected: what the replay of all sets prints.
+//! oracle SET: the answers of that set. oracle expected: what the replay of all sets prints. oracle lines FOLDER: writes the
+//! stored inputs of the line program to a folder, and what it must print for each.
 
 mod chooser_sets;
 mod handmade;
@@ -8,10 +9,14 @@ mod handmade_choosers;
 mod handmade_sets;
 mod handmade_slots;
 mod hash_sets;
+mod line_bounds;
+mod line_sets;
 mod order_sets;
 mod reservoir_sets;
 mod round_sets;
 mod slot_sets;
+
+use std::path::Path;
 
 use oracle::{layer_apply, splitmix64, Draws, Told};
 
@@ -181,9 +186,17 @@ fn main() {
         }
         return;
     }
+    if wanted == "lines" {
+        let folder = std::env::args().nth(2).unwrap_or_default();
+        line_sets::write(Path::new(&folder)).unwrap_or_else(|e| panic!("{folder}: {e}"));
+        return;
+    }
     let Some((name, from, lines)) = SETS.iter().find(|(name, _, _)| *name == wanted) else {
         let names: Vec<_> = SETS.iter().map(|(name, _, _)| *name).collect();
-        eprintln!("usage: oracle {} | expected", names.join(" | "));
+        eprintln!(
+            "usage: oracle {} | expected | lines FOLDER",
+            names.join(" | ")
+        );
         std::process::exit(2);
     };
     println!("# {name}: made by oracle/make. Answers of {from}.");

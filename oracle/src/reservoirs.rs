@@ -53,6 +53,10 @@ impl Reservoir {
         if k > n {
             return Err(3);
         }
+        // The original lists k numbers at least, and would take memory for all of them.
+        if self.list.len() < k as usize {
+            return Err(4);
+        }
         self.kept(ConsistentReservoir::new(k, n, key), ())?;
         self.words[..2].copy_from_slice(&[key as u32, (key >> 32) as u32]);
         Ok(())
