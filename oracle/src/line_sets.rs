@@ -87,12 +87,13 @@ fn straddle() -> Vec<u8> {
     let mut draws = Draws(11);
     let mut input = opened();
     for block in 1..=66 {
-        let line = match block % 8 {
+        // Of another kind at each end of 65,536 bytes too.
+        let line = match (block + block / 8) % 8 {
             0 => filled(b"join", b'x', 70 + 2 * block),
-            1 | 5 => open_line(draws.next(), 3, 9 + draws.below(90)).into(),
-            2 | 6 => format!("withdraw\t{:010}", draws.below(4)).into(),
-            3 => b"plan".to_vec(),
-            4 => b"admit".to_vec(),
+            1 | 4 => open_line(draws.next(), 3, 9 + draws.below(90)).into(),
+            2 | 5 => format!("withdraw\t{:010}", draws.below(4)).into(),
+            3 => b"admit".to_vec(),
+            6 => b"plan".to_vec(),
             _ => b"join".to_vec(),
         };
         let end = 4096 * block - before_the_end(&line, &mut draws);
