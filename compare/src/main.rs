@@ -1,5 +1,6 @@
 //! The proved library against the original on random and boundary inputs, and against document 01's steps on memory made by
-//! hand. compare [N]: N million inputs (default 1). Prints the first difference with its input, and ends with status 1.
+//! hand; the proved line program against one over the original's types. compare [N]: N million inputs (default 1). Prints the
+//! first difference with its input, and ends with status 1.
 
 mod choosers;
 mod document;
@@ -8,6 +9,7 @@ mod document_rounds;
 mod document_slots;
 mod hashes;
 mod layers;
+mod lines;
 mod lookups;
 mod orders;
 mod reservoirs;
@@ -77,6 +79,9 @@ const CALLS: [(&str, u64, Trial); 39] = [
     ),
 ];
 
+/// What has a process of its own for each input, so few of them: how many in a million.
+const PROGRAMS: [(&str, u64, Trial); 1] = [("the line program, whole inputs", 200, lines::inputs)];
+
 fn main() {
     let millions: u64 = match std::env::args().nth(1) {
         None => 1,
@@ -85,8 +90,9 @@ fn main() {
             std::process::exit(2);
         }),
     };
-    for (place, (name, share, trial)) in CALLS.into_iter().enumerate() {
-        let count = millions * 10_000 * share;
+    let calls = CALLS.map(|(name, share, trial)| (name, 10_000 * share, trial));
+    for (place, (name, inputs, trial)) in calls.into_iter().chain(PROGRAMS).enumerate() {
+        let count = millions * inputs;
         // Other numbers for each call and for each length of run.
         let mut draws = Draws(((place as u64) << 48) + count);
         for turn in 0..count {
