@@ -1,7 +1,9 @@
 //! Times the proved library beside the original: the same inputs, one run, the lowest of several measurements of each.
+//! bench lines: the line program only.
 
 mod choosers;
 mod hashes;
+mod lines;
 mod orders;
 mod reservoirs;
 mod rounds;
@@ -52,6 +54,11 @@ fn report_alone(what: &str, ours: f64) {
     println!("{what:<44} {ours:>8.2}");
 }
 
+/// How two of our own compare.
+fn report_ratio(what: &str, ratio: f64) {
+    println!("{what:<44} {:>8} {:>8} {ratio:>7.2}", "", "");
+}
+
 #[inline(never)]
 fn layer_xors(layer: u32, key: u64, n: u32) -> u64 {
     (0..n).fold(0, |sum, x| {
@@ -75,6 +82,9 @@ fn main() {
         "{:<44} {:>8} {:>8} {:>7}",
         "nanoseconds each", "proved", "Rust", "ratio"
     );
+    if std::env::args().nth(1).as_deref() == Some("lines") {
+        return lines::all();
+    }
     for layer in [0, 1, 2, 3, 5, 8, 11] {
         let n = 1u32 << (2 * layer + 2);
         let turns = ((1u64 << 22) / u64::from(n)).max(1);
@@ -114,4 +124,5 @@ fn main() {
     choosers::all();
     slots::all();
     rounds::all();
+    lines::all();
 }

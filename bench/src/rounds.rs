@@ -17,7 +17,7 @@ const PLANS: [(u32, u32, u32); 4] = [
 ];
 
 /// A round in memory that is long enough.
-struct Lent {
+pub struct Lent {
     record: [u32; 7],
     list: Vec<u32>,
     table: Vec<u8>,
@@ -25,7 +25,7 @@ struct Lent {
 
 impl Lent {
     /// k of n locations, and these slots. Joins and withdraws would lead to the same.
-    fn open(k: u32, n: u32, slots: &Slots) -> Self {
+    pub fn open(k: u32, n: u32, slots: &Slots) -> Self {
         let mut lent = Self {
             record: [0; 7],
             list: vec![0; 8 * k as usize + 64],
@@ -36,7 +36,7 @@ impl Lent {
         lent
     }
 
-    fn plan(&self, locations: &mut [u32], terminals: &mut [u32], scratch: &mut [u64]) {
+    pub fn plan(&self, locations: &mut [u32], terminals: &mut [u32], scratch: &mut [u64]) {
         let (record, list, table) = (&self.record, &self.list, &self.table);
         proved::round_plan(record, list, table, locations, terminals, scratch).unwrap();
     }
