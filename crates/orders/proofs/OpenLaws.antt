@@ -17,7 +17,12 @@ use Rattle.orders.specs.Reservoirs.{opening}
 use Rattle.orders.specs.ReservoirCalls.{listed, sample, fitting, afterOpen, reservoirOf, openCall, afterSample, sampleCall}
 use Rattle.orders.specs.InnerPasses.{scanOf, placed}
 use Rattle.orders.proofs.LogLaws.{layer-in}
-use Rattle.orders.proofs.PlacedLaws.{opening-length, opening-fits, opening-placed}
+use Rattle.orders.proofs.PlacedLaws.{opening-length, opening-long, opening-fits, opening-placed}
+
+pub open-few : (key k n : ℕ) (l : List ℕ) → n ≤ 2 ^ 30 → (k ≡ 0 → ⊥) → k ≤ n → length l < k → afterOpen (refusal 4) l ≡ openCall k n key l
+unfolding openCall
+open-few key k n l n-small some-k few h =
+    rw (le-ltb (2 ^ 30) n n-small, ne-eqb k 0 some-k, le-ltb n k few, lt-ltb (length l) (length (opening key k n)) (omega (arith, opening-long key k n n-small few)))
 
 module _ (key k n : ℕ) (l : List ℕ) (n-small : n ≤ 2 ^ 30) (some-k : k ≡ 0 → ⊥) (few : k ≤ n) (j : ℕ) (layer-is : j ≡ layerOf n) (s : Scan) (is : s ≡ scanOf key j n k) where
   pub open-layer : j < 15

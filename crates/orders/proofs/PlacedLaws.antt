@@ -18,9 +18,9 @@ use Rattle.layers.specs.Layer.{size}
 use Rattle.orders.specs.Orders.{layerOf}
 use Rattle.orders.specs.Reservoirs.{outputs, opening}
 use Rattle.orders.specs.InnerPasses.{outs, place, scanOf, rankOf, laidOf, placed}
-use Rattle.orders.proofs.LogLaws.{size-suc, layer-quarter}
+use Rattle.orders.proofs.LogLaws.{size-suc, layer-fits, layer-in, layer-quarter}
 use Rattle.orders.proofs.OrderLaws.{place-order, low-outputs}
-use Rattle.orders.proofs.HeldLaws.{heldAt}
+use Rattle.orders.proofs.HeldLaws.{heldAt, held-long}
 use Rattle.orders.proofs.ReservoirLaws.{opening-held}
 use Rattle.orders.proofs.CoverLaws.{take-outs, rank-le}
 
@@ -74,6 +74,9 @@ held-length key k n h =
 
 pub opening-length : (key k n : ℕ) → 0 < n → n ≤ 2 ^ 30 → scanOf key (layerOf n) n k .inputs ≡ length (opening key k n)
 opening-length key k n h b = held-length key k n h ∙ ap length (sym (opening-held key k n b))
+
+pub opening-long : (key k n : ℕ) → n ≤ 2 ^ 30 → k ≤ n → k ≤ length (opening key k n)
+opening-long key k n b h = rw (opening-held key k n b) (held-long key (suc (layerOf n)) k n (omega (arith, layer-in n b)) h (layer-fits n))
 
 pub opening-fits : (key k n : ℕ) → n ≤ 2 ^ 30 → length (opening key k n) ≤ 4 ^ suc (layerOf n)
 opening-fits key k n b =

@@ -182,6 +182,10 @@ impl ConsistentReservoir {
         if n < k {
             return Opened::Refused(3);
         }
+        // The used length is at least k, so that a list too short for k is known before the scan.
+        if list.len() < (k as usize) {
+            return Opened::Refused(4);
+        }
         let j = scans::layer_of(n);
         let s = scans::scan_below(j, key, n, k);
         let used = s.inputs;
