@@ -1,0 +1,12 @@
+pub mod CommandLaws
+pub mod CommandExamples
+pub mod DecimalLaws
+pub mod PutLaws
+pub mod TextExamples
+pub mod HeldLaws
+pub mod StreamLaws
+pub mod LineLaws
+pub mod ActLaws
+pub mod FeedLaws
+pub mod PartLaws
+pub mod RunLaws

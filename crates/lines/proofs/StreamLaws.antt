@@ -1,0 +1,140 @@
+-- The line program's theorem: whatever parts an input comes in, what is put out for it is the text of the answers to its lines.
+-- Assumes nothing.
+use mathlib.Core.Path.{_≡_, refl, sym, ap, _∙_}
+use mathlib.Core.Bool.{true, false}
+use mathlib.Core.List.{List, [], _∷_, _++_, append-assoc, append-nil}
+use Prim.Native.Nat.{ℕ, zero, suc, _≤_}
+use native.Mathlib.Omega.{arith}
+use lib.Dec.{eqb}
+use lib.ListN.{length, take}
+use borrow.Author.Tests.{eq-eqb, ne-eqb}
+use Rattle.lists.proofs.Tests.{by-test}
+use Rattle.lines.specs.Lines.{onto, linesOf}
+use Rattle.lines.specs.Replies.{textOf}
+use Rattle.lines.specs.Sessions.{World, hear, Heard, answers}
+use Rattle.lines.specs.Streams.{Stand, stand, byte, fed, ended, putOut, whole}
+use Rattle.lines.proofs.HeldLaws.{take-cut, hear-first}
+
+-- ---- one byte
+
+pub byte-line : (s : Stand) (b : ℕ) → eqb b 10 ≡ true
+    → byte s b ≡ stand (hear (s .world) (s .held) .world) [] (s .text ++ textOf (hear (s .world) (s .held) .reply))
+unfolding byte
+byte-line s b e = rw e
+
+pub byte-held : (s : Stand) (b : ℕ) → eqb b 10 ≡ false → byte s b ≡ stand (s .world) (take 81 (s .held ++ (b ∷ []))) (s .text)
+unfolding byte
+byte-held s b e = rw e
+
+-- ---- what was put out before stays in front
+
+abbrev behind : List ℕ → Stand → Stand
+behind t s = stand (s .world) (s .held) (t ++ s .text)
+
+byte-behind : (t : List ℕ) (s : Stand) (b : ℕ) → byte (behind t s) b ≡ behind t (byte s b)
+byte-behind t s b =
+    by-test (eqb b 10)
+    (λ e. byte-line (behind t s) b e
+    ∙ (λ i. stand (hear (s .world) (s .held) .world) [] (append-assoc t (s .text) (textOf (hear (s .world) (s .held) .reply)) i))
+    ∙ ap (behind t) (sym (byte-line s b e)))
+    (λ e. byte-held (behind t s) b e ∙ ap (behind t) (sym (byte-held s b e)))
+
+fed-behind : (t : List ℕ) (s : Stand) (l : List ℕ) → fed (behind t s) l ≡ behind t (fed s l)
+fed-behind t s [] = refl
+fed-behind t s (b ∷ l) = ap (λ (x : Stand). fed x l) (byte-behind t s b) ∙ fed-behind t (byte s b) l
+
+ended-behind : (t : List ℕ) (s : Stand) → ended (behind t s) ≡ behind t (ended s)
+unfolding ended
+ended-behind t s =
+    by-test (eqb (length (s .held)) 0)
+    (λ e. rw e)
+    (λ e. rw e (byte-behind t s 10))
+
+-- ---- parts
+
+pub fed-append : (s : Stand) (a b : List ℕ) → fed s (a ++ b) ≡ fed (fed s a) b
+fed-append s [] b = refl
+fed-append s (x ∷ a) b = fed-append (byte s x) a b
+
+-- the parts one by one put out what the whole does
+put-whole : (w : World) (h : List ℕ) (ps : List (List ℕ)) → putOut w h ps ≡ ended (fed (stand w h []) (whole ps)) .text
+unfolding putOut
+put-whole w h [] = refl
+put-whole w h (p ∷ ps) =
+    let s = fed (stand w h []) p in
+    let e : behind (s .text) (stand (s .world) (s .held) []) ≡ s = (λ i. stand (s .world) (s .held) (append-nil (s .text) i)) in
+    ap (λ (t : List ℕ). s .text ++ t) (put-whole (s .world) (s .held) ps)
+    ∙ ap (λ (x : Stand). x .text) (sym (ended-behind (s .text) (fed (stand (s .world) (s .held) []) (whole ps))))
+    ∙ ap (λ (x : Stand). ended x .text) (sym (fed-behind (s .text) (stand (s .world) (s .held) []) (whole ps)))
+    ∙ ap (λ (x : Stand). ended (fed x (whole ps)) .text) e
+    ∙ ap (λ (x : Stand). ended x .text) (sym (fed-append (stand w h []) p (whole ps)))
+
+-- ---- lines
+
+-- a line that is not empty, if there is one
+abbrev last : List ℕ → List (List ℕ)
+last [] = []
+last (b ∷ l) = (b ∷ l) ∷ []
+
+-- what came of a line before, in front of the lines that follow
+abbrev after : List ℕ → List (List ℕ) → List (List ℕ)
+after p [] = last p
+after p (l ∷ ls) = (p ++ l) ∷ ls
+
+after-onto : (p : List ℕ) (b : ℕ) (ls : List (List ℕ)) → after p (onto b ls) ≡ after (p ++ (b ∷ [])) ls
+after-onto [] b [] = refl
+after-onto (x ∷ p) b [] = refl
+after-onto p b (l ∷ ls) = ap (λ (r : List ℕ). r ∷ ls) (sym (append-assoc p (b ∷ []) l))
+
+after-none : (ls : List (List ℕ)) → after [] ls ≡ ls
+after-none [] = refl
+after-none (l ∷ ls) = refl
+
+-- the text of a line's answer, and those of the lines after it
+answers-first : (w : World) (t p : List ℕ) (ls : List (List ℕ))
+    → (t ++ textOf (hear w (take 81 p) .reply)) ++ answers (hear w (take 81 p) .world) ls ≡ t ++ answers w (p ∷ ls)
+answers-first w t p ls =
+    ap (λ (h : Heard). (t ++ textOf (h .reply)) ++ answers (h .world) ls) (hear-first w p)
+    ∙ append-assoc t (textOf (hear w p .reply)) (answers (hear w p .world) ls)
+
+pub ended-none : (s : Stand) → length (s .held) ≡ 0 → ended s ≡ s
+unfolding ended
+ended-none s e = rw (eq-eqb (length (s .held)) 0 e)
+
+pub ended-held : (s : Stand) → (length (s .held) ≡ 0 → ⊥) → ended s ≡ byte s 10
+unfolding ended
+ended-held s e = rw (ne-eqb (length (s .held)) 0 e)
+
+ends : (w : World) (p t : List ℕ) → ended (stand w (take 81 p) t) .text ≡ t ++ answers w (last p)
+ends w [] t = ap (λ (s : Stand). s .text) (ended-none (stand w [] t) refl) ∙ sym (append-nil t)
+ends w (x ∷ p) t =
+    ap (λ (s : Stand). s .text) (ended-held (stand w (take 81 (x ∷ p)) t) (λ z. omega arith))
+    ∙ ap (λ (s : Stand). s .text) (byte-line (stand w (take 81 (x ∷ p)) t) 10 refl)
+    ∙ sym (append-nil (t ++ textOf (hear w (take 81 (x ∷ p)) .reply)))
+    ∙ answers-first w t (x ∷ p) []
+
+-- the first bytes p of a line were fed before, of which at most 81 are held
+lines-fed : (w : World) (p t l : List ℕ) → ended (fed (stand w (take 81 p) t) l) .text ≡ t ++ answers w (after p (linesOf l))
+lines-fed w p t [] = ends w p t
+lines-fed w p t (b ∷ l) =
+    by-test (eqb b 10)
+    (λ e.
+    let v = hear w (take 81 p) .world in
+    let u = t ++ textOf (hear w (take 81 p) .reply) in
+    ap (λ (s : Stand). ended (fed s l) .text) (byte-line (stand w (take 81 p) t) b e)
+    ∙ lines-fed v [] u l
+    ∙ ap (λ (ls : List (List ℕ)). u ++ answers v ls) (after-none (linesOf l))
+    ∙ answers-first w t p (linesOf l)
+    ∙ rw (e, append-nil p))
+    (λ e.
+    ap (λ (s : Stand). ended (fed s l) .text) (byte-held (stand w (take 81 p) t) b e ∙ ap (λ (h : List ℕ). stand w h t) (take-cut 81 p (b ∷ [])))
+    ∙ lines-fed w (p ++ (b ∷ [])) t l
+    ∙ ap (λ (ls : List (List ℕ)). t ++ answers w ls) (sym (after-onto p b (linesOf l)))
+    ∙ rw e)
+
+-- THE THEOREM. An input that comes in any parts: what is put out is the text of the answers to its lines, in order.
+pub program : (w : World) (parts : List (List ℕ)) → putOut w [] parts ≡ answers w (linesOf (whole parts))
+program w parts =
+    put-whole w [] parts
+    ∙ lines-fed w [] [] (whole parts)
+    ∙ ap (answers w) (after-none (linesOf (whole parts)))
