@@ -7,7 +7,7 @@ use mathlib.Core.List.{List, _∷_}
 use mathlib.Core.Option.{Option, some, Option·getD}
 use Prim.Native.Nat.{ℕ, suc, _+_, _≤_, _<_, min, max}
 use native.Mathlib.Omega.{arith}
-use borrow.Author.Tests.{lt-ltb, le-ltb, eqb-true}
+use borrow.Author.Tests.{lt-ltb, le-ltb}
 use lib.Dec.{eqb}
 use lib.ListN.{length, getD, set, length-set}
 use lib.Seq.{getD-set-same, getD-set-other}
@@ -16,23 +16,14 @@ use Rattle.lists.specs.Lists.{has, without, firstFrom}
 use Rattle.lists.proofs.Tests.{by-test, by-below, by-same}
 use Rattle.lists.proofs.Tolds.{not-said, said-same}
 use Rattle.lists.proofs.Having.{has-head, has-tail}
-use Rattle.lists.proofs.Searching.{by-first, first-same}
+use Rattle.lists.proofs.Searching.{first-same}
 use Rattle.choosers.specs.declared.node_map.ConsistentNodeMap.{ConsistentNodeMap}
 use Rattle.choosers.specs.Slots.{active, deleted, actives, vacant, slotAmong}
 use Rattle.choosers.specs.SlotCalls.{mapOf, slotLimit, fitting, After, after, refused, addCall}
-use Rattle.choosers.proofs.TableLaws.{active-yes, active-no, active-over, active-byte, active-same, deleted-byte}
+use Rattle.choosers.proofs.TableLaws.{active-yes, active-no, active-over, active-byte, active-same, deleted-byte, by-vacant}
 use Rattle.choosers.proofs.SlotCallLaws.{Parts, set-small, fits-parts, fits-of, add-unfit, add-vacant, add-full, add-limit, add-new}
 use Rattle.choosers.proofs.SlotLaws.{has-actives, slot-same, slot-put}
 use Rattle.choosers.proofs.ActiveLaws.{Out, out-actives, out-length}
-
--- by cases: the lowest deleted slot, or the count
-by-vacant : {C : Type 0} (t : List ℕ) (c : ℕ) → (vacant t c < c → getD t (vacant t c) 0 ≡ 0 → C) → (vacant t c ≡ c → C) → C
-unfolding vacant
-by-vacant t c f g =
-    by-first (deleted t c) 0 c
-    (λ i e l h y b. let v : Option·getD (firstFrom (deleted t c) 0 c) c ≡ i = ap (λ (o : Option ℕ). Option·getD o c) e in
-    f (omega arith) (ap (λ (x : ℕ). getD t x 0) v ∙ eqb-true (getD t i 0) 0 (sym (deleted-byte t c i (omega arith)) ∙ y)))
-    (λ e b. g (ap (λ (o : Option ℕ). Option·getD o c) e))
 
 pub vacant-le : (t : List ℕ) (c : ℕ) → vacant t c ≤ c
 vacant-le t c = by-vacant t c (λ h z. omega arith) (λ e. omega arith)

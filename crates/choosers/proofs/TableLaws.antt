@@ -4,20 +4,20 @@ use mathlib.Core.Path.{_≡_, refl, sym, ap, _∙_}
 use mathlib.Core.Logic.{_≢_}
 use mathlib.Core.Bool.{true, false, not, _&&_}
 use mathlib.Core.List.{List}
-use mathlib.Core.Option.{Option·getD}
-use Prim.Native.Nat.{ℕ, zero, suc, _+_, _-_, _≤_, _<_, max}
-use native.Mathlib.Nat.{sub-zero}
+use mathlib.Core.Option.{Option, Option·getD}
+use Prim.Native.Nat.{ℕ, zero, suc, _+_, _-_, _≤_, _<_, max, min}
 use native.Mathlib.Numerals.{add-one}
 use native.Mathlib.Omega.{arith}
-use borrow.Author.Tests.{lt-ltb, le-ltb, le-leb, lt-leb, eq-eqb, ne-eqb, ltb-true, eqb-true, leb-true}
+use borrow.Author.Tests.{lt-ltb, le-ltb, le-leb, lt-leb, ne-eqb, ltb-true, eqb-true, eqb-false, leb-true}
 use lib.Dec.{ltb, leb, eqb}
-use lib.ListN.{length, getD, take}
-use lib.Seq.{take-suc}
-use Rattle.lists.specs.Lists.{keep, zeroTo, every, firstFrom}
+use lib.ListN.{length, getD, take, drop, length-drop}
+use lib.Seq.{take-suc, getD-drop}
+use Rattle.lists.specs.Lists.{keep, zeroTo, every, notBelow, firstFrom}
 use Rattle.lists.proofs.Tests.{by-below, by-same}
 use Rattle.lists.proofs.Keeping.{both}
 use Rattle.lists.proofs.Prefixes.{keep-snoc-yes, keep-snoc-no}
 use Rattle.lists.proofs.Ranges.{zero-to-snoc, every-snoc, every-place}
+use Rattle.lists.proofs.Searching.{by-first}
 use Rattle.choosers.specs.Slots.{active, deleted, actives, vacant}
 use Rattle.choosers.specs.SlotCalls.{atMostOne}
 
@@ -71,27 +71,69 @@ small-none t = refl
 pub small-turn : (t : List ℕ) (i a r : ℕ) → i < length t → r ≡ max a (getD t i 0) → every atMostOne (take i t) ≡ leb a 1 → every atMostOne (take (i + 1) t) ≡ leb r 1
 small-turn t i a r h e q = rw (add-one, take-suc t i 0 h, every-snoc atMostOne (take i t) (getD t i 0), q, e) (sym (leb-max a (getD t i 0)))
 
--- ---- lowest: the lowest deleted slot from i up, else the count
+-- ---- full: none of the bytes from x on is 0, by the smallest so far
 
-abbrev pub vacantFrom : List ℕ → ℕ → ℕ → ℕ
-vacantFrom t c i = Option·getD (firstFrom (deleted t c) i (c - i)) c
+leb-min : (a b : ℕ) → leb 1 (min a b) ≡ (leb 1 a && leb 1 b)
+leb-min a b =
+    by-below a 1
+    (λ p. rw (lt-leb 1 (min a b) (omega arith), lt-leb 1 a (omega arith)))
+    (λ p. by-below b 1
+    (λ q. rw (lt-leb 1 (min a b) (omega arith), le-leb 1 a (omega arith), lt-leb 1 b (omega arith)))
+    (λ q. rw (le-leb 1 (min a b) (omega arith), le-leb 1 a (omega arith), le-leb 1 b (omega arith))))
 
-pub vacant-all : (t : List ℕ) (c : ℕ) → vacantFrom t c 0 ≡ vacant t c
+pub full-none : (t : List ℕ) (x : ℕ) → every (notBelow 1) (take 0 (drop x t)) ≡ leb 1 255
+unfolding every
+full-none t x = refl
+
+pub full-turn : (t : List ℕ) (x i a r : ℕ) → x + i < length t → r ≡ min a (getD t (x + i) 0) → every (notBelow 1) (take i (drop x t)) ≡ leb 1 a → every (notBelow 1) (take (i + 1) (drop x t)) ≡ leb 1 r
+unfolding notBelow
+full-turn t x i a r h e q =
+    let l : i < length (drop x t) = omega (arith, length-drop x t) in
+    rw (add-one, take-suc (drop x t) i 0 l, every-snoc (notBelow 1) (take i (drop x t)) (getD (drop x t) i 0), getD-drop x t i 0, q, e) (sym (leb-min a (getD t (x + i) 0)))
+
+-- ---- lowest: no byte below x is 0
+
+-- by cases: the lowest deleted slot, or the count
+pub by-vacant : {C : Type 0} (t : List ℕ) (c : ℕ) → (vacant t c < c → getD t (vacant t c) 0 ≡ 0 → C) → (vacant t c ≡ c → C) → C
 unfolding vacant
-vacant-all t c = rw (sub-zero c)
+by-vacant t c f g =
+    by-first (deleted t c) 0 c
+    (λ i e l h y b. let v : Option·getD (firstFrom (deleted t c) 0 c) c ≡ i = ap (λ (o : Option ℕ). Option·getD o c) e in
+    f (omega arith) (ap (λ (x : ℕ). getD t x 0) v ∙ eqb-true (getD t i 0) 0 (sym (deleted-byte t c i (omega arith)) ∙ y)))
+    (λ e b. g (ap (λ (o : Option ℕ). Option·getD o c) e))
 
-pub vacant-hit : (t : List ℕ) (c i : ℕ) → i < c → getD t i 0 ≡ 0 → vacantFrom t c i ≡ i
-vacant-hit t c i h e =
-    let z : c - i ≡ suc (c - (i + 1)) = omega arith in
-    rw (z, deleted-byte t c i h, eq-eqb (getD t i 0) 0 e)
+pub vacant-hit : (t : List ℕ) (c x : ℕ) → x < c → getD t x 0 ≡ 0 → vacant t c ≤ x
+unfolding vacant
+vacant-hit t c x h z =
+    by-first (deleted t c) 0 c
+    (λ i e l g y b. let v : Option·getD (firstFrom (deleted t c) 0 c) c ≡ i = ap (λ (o : Option ℕ). Option·getD o c) e in
+    by-below x i (λ m. absurd (no (b x (omega arith) m))) (λ m. omega arith))
+    (λ e b. absurd (no (b x (omega arith) (omega arith))))
+  where
+    no : deleted t c x ≢ false
+    no f = eqb-false (getD t x 0) 0 (sym (deleted-byte t c x h) ∙ f) z
 
-pub vacant-turn : (t : List ℕ) (c i : ℕ) → i < c → getD t i 0 ≢ 0 → vacantFrom t c (i + 1) ≡ vacantFrom t c i
-vacant-turn t c i h d =
-    let z : c - i ≡ suc (c - (i + 1)) = omega arith in
-    rw (z, deleted-byte t c i h, ne-eqb (getD t i 0) 0 d, add-one)
+pub vacant-turn : (t : List ℕ) (c x : ℕ) → x < c → getD t x 0 ≢ 0 → x ≤ vacant t c → x + 1 ≤ vacant t c
+vacant-turn t c x h d l =
+    by-vacant t c
+    (λ g z. by-same (vacant t c) x (λ e. absurd (d (ap (λ (i : ℕ). getD t i 0) (sym e) ∙ z))) (λ n. omega arith))
+    (λ e. omega arith)
 
-pub vacant-end : (t : List ℕ) (c i : ℕ) → c ≤ i → vacantFrom t c i ≡ c
-vacant-end t c i h = let z : c - i ≡ 0 = omega arith in rw z
+pub vacant-end : (t : List ℕ) (c x : ℕ) → c ≤ x → x ≤ vacant t c → c ≡ vacant t c
+vacant-end t c x h l = by-vacant t c (λ g z. absurd (omega arith)) (λ e. sym e)
+
+-- n bytes at once
+pub vacant-past : (t : List ℕ) (c x n : ℕ) → x + n ≤ c → c ≤ length t → every (notBelow 1) (take n (drop x t)) ≡ true → x ≤ vacant t c → x + n ≤ vacant t c
+unfolding notBelow
+vacant-past t c x n h k e l =
+    by-vacant t c
+    (λ g z. by-below (vacant t c) (x + n)
+    (λ m. let i : ℕ = vacant t c - x in
+    let s : x + i ≡ vacant t c = omega arith in
+    let b : 1 ≤ getD (drop x t) i 0 = leb-true 1 (getD (drop x t) i 0) (every-place (notBelow 1) (drop x t) n i e (omega arith) (omega (arith, length-drop x t))) in
+    absurd (omega (arith, b, getD-drop x t i 0, ap (λ (j : ℕ). getD t j 0) s, z)))
+    (λ m. m))
+    (λ v. omega arith)
 
 -- ---- any, sum: how many of the slots below i are active
 

@@ -1,10 +1,10 @@
 // Passes over the bytes of a slot map's table.
 ghost use mathlib.Core.Path.{_≡_};
 ghost use mathlib.Core.Bool.{true, not};
-ghost use Prim.Native.Nat.{_≤_, _<_, max, min};
+ghost use Prim.Native.Nat.{_+_, _≤_, max, min};
 ghost use lib.Dec.{eqb};
-ghost use lib.ListN.{length, getD, take};
-ghost use Rattle.lists.specs.Lists.{every};
+ghost use lib.ListN.{length, getD, take, drop};
+ghost use Rattle.lists.specs.Lists.{every, notBelow};
 ghost use Rattle.choosers.specs.Slots.{actives, vacant};
 ghost use Rattle.choosers.specs.SlotCalls.{atMostOne, slotLimit};
 
@@ -31,12 +31,50 @@ pub(crate) fn small(table: &[u8], c: usize) -> bool
     high <= 1
 }
 
+fn smaller_of(a: u8, b: u8) -> u8
+    ensures { λ r. ⌜ r ≡ min a b ⌝ }
+{
+    if b < a {
+        return b;
+    }
+    a
+}
+
+// Whether none of the 32 bytes from x on is 0. It reads all of them, as `small` does.
+fn full(table: &[u8], x: usize) -> bool
+    requires { ⌜ x + 32 ≤ length (now table) ⌝ }
+    ensures { λ r. ⌜ r ≡ every (notBelow 1) (take 32 (drop x (now (table .entry)))) ⌝ }
+{
+    let mut low: u8 = 255;
+    let mut i: usize = 0;
+    while i < 32 {
+        low = smaller_of(low, table[x + i]);
+        i += 1;
+    }
+    1 <= low
+}
+
+// Where to look for the lowest 0 from: past the full blocks of 32 bytes that the table begins with.
+fn past_full(table: &[u8], c: usize) -> usize
+    requires { ⌜ c ≤ length (now table) ⌝ }
+    ensures { λ r. ⌜ r ≤ vacant (now (table .entry)) c ⌝ }
+{
+    let mut x: usize = 0;
+    while 32 <= c - x {
+        if !full(table, x) {
+            return x;
+        }
+        x += 32;
+    }
+    x
+}
+
 // The lowest of the first c places whose byte is 0, else c.
 pub(crate) fn lowest(table: &[u8], c: usize) -> usize
     requires { ⌜ c ≤ length (now table) ⌝ }
     ensures { λ r. ⌜ r ≡ vacant (now (table .entry)) c ⌝ }
 {
-    let mut x: usize = 0;
+    let mut x = past_full(table, c);
     while x < c {
         if table[x] == 0 {
             return x;

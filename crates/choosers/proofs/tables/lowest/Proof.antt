@@ -1,21 +1,24 @@
 -- `choosers::tables::lowest` meets its contract.
 -- Assumes nothing.
-use mathlib.Core.Path.{_≡_, sym, _∙_}
 use Prim.Native.Nat.{_-_, _≤_}
+use native.Mathlib.Omega.{arith}
 use borrow.Author.Needs.{needs}
 use Rattle.choosers.specs.Slots.{vacant}
-use Rattle.choosers.proofs.TableLaws.{vacantFrom, vacant-all, vacant-hit, vacant-turn, vacant-end}
+use Rattle.choosers.proofs.TableLaws.{vacant-hit, vacant-turn, vacant-end}
 use Rattle.choosers.proofs.tables.lowest.Statement.{statement}
 use Rattle.choosers.proofs.tables.lowest.Tie as tie
 
 abbrev Inv-loop : tie.InvT-loop
-Inv-loop table c x₀ x = (x ≤ c) × (vacantFrom table c x ≡ vacant table c)
+Inv-loop table c x₀ x = x ≤ vacant table c
 
 abbrev μ-loop : tie.MeasureT-loop
 μ-loop table c x₀ x = c - x
 
+past-full-requires : tie.Need-past-full-requires Inv-loop μ-loop
+past-full-requires c κs = search needs
+
 loop-holds : tie.Need-loop-holds Inv-loop μ-loop
-loop-holds c = (search needs, vacant-all _ _)
+loop-holds c = c .past-full .ensures
 
 shared-slice-read-if1 : tie.Need-shared-slice-read-if1 Inv-loop μ-loop
 shared-slice-read-if1 c = search needs
@@ -23,8 +26,8 @@ shared-slice-read-if1 c = search needs
 returns : tie.Need-returns Inv-loop μ-loop
 returns c =
     let t = c .before .before .before in
-    let a = t .before .args in
-    sym (vacant-hit (a .table .now) (a .c) (t .loop .x) (search needs) (c .if1 .taken)) ∙ t .loop .inv .1
+    let a = t .before .before .before .args in
+    omega (arith, vacant-hit (a .table .now) (a .c) (t .loop .x) (search needs) (c .if1 .taken))
 
 add-x : tie.Need-add-x Inv-loop μ-loop
 add-x c = search needs
@@ -35,13 +38,14 @@ loop-less c = search needs
 loop-again : tie.Need-loop-again Inv-loop μ-loop
 loop-again c =
     let t = c .before .before .before in
-    let a = t .before .args in
-    (search needs, vacant-turn (a .table .now) (a .c) (t .loop .x) (search needs) (c .if1 .left) ∙ t .loop .inv .1)
+    let a = t .before .before .before .args in
+    vacant-turn (a .table .now) (a .c) (t .loop .x) (search needs) (c .if1 .left) (t .loop .inv)
 
 returns-2 : tie.Need-returns-2 Inv-loop μ-loop
 returns-2 c =
     let t = c .before in
-    sym (vacant-end _ _ (t .loop .x) (c .loop-test .left)) ∙ t .loop .inv .1
+    let a = t .before .before .before .args in
+    vacant-end (a .table .now) (a .c) (t .loop .x) (c .loop-test .left) (t .loop .inv)
 
 pub lowest-spec : {M : Type 1} → statement M
 lowest-spec =
@@ -49,6 +53,7 @@ lowest-spec =
     (tie.spec
     Inv-loop
     μ-loop
+    past-full-requires
     loop-holds
     shared-slice-read-if1
     returns
