@@ -4,9 +4,9 @@ use mathlib.Core.Path.{_≡_, sym, ap, _∙_, subst}
 use mathlib.Core.List.{List}
 use Prim.Native.Nat.{ℕ}
 use Rattle.lines.specs.Replies as Replies
-use Rattle.lines.specs.Sessions.{site, Said, World, world, heard, onSite, openLine, admitLine, joinLine, withdrawLine, planLine, answered}
+use Rattle.lines.specs.Sessions.{site, Said, said, World, world, onSite, openLine, admitLine, joinLine, withdrawLine, planLine, answered}
 use Rattle.lines.specs.InnerLines.{Printable}
-use Rattle.lines.specs.InnerSessions.{saidBy, spokenOf, actBy}
+use Rattle.lines.specs.InnerSessions.{saidBy, refusedBy, spokenOf, actBy}
 use Rattle.lines.specs.declared.commands.Command.{Command}
 use Rattle.lines.specs.declared.commands.Command.the-variants as command
 use Rattle.lines.specs.declared.sessions.Current.{Current}
@@ -43,12 +43,12 @@ module _ (c : Current) (l t l′ t′ ls ts : List ℕ) (places : ℕ) (cmd : Co
     unfolding answered
     act-withdraw x e is = acts (withdrawLine x (site c l t)) is (ap (answered before) (sym e))
 
--- a plan's, and that of no known form
-module _ (w : World) (cmd : Command) where
-  pub act-plan : cmd ≡ command.Plan → planLine w ≡ answered w cmd
-  unfolding answered
-  act-plan e = ap (answered w) (sym e)
+    pub act-unknown : cmd ≡ command.Unknown → l′ ≡ l → t′ ≡ t → a ≡ refusedBy c 12 → Acts
+    unfolding answered
+    act-unknown e m n r =
+        acts (said (Replies.refused 12) (site c l t)) (ap (λ (x : Answered). saidBy x l′ t′) r ∙ (λ i. said (Replies.refused 12) (site c (m i) (n i)))) (ap (answered before) (sym e))
 
-  pub act-unknown : cmd ≡ command.Unknown → heard (Replies.refused 12) w ≡ answered w cmd
-  unfolding answered
-  act-unknown e = ap (answered w) (sym e)
+-- a plan's
+pub act-plan : (w : World) (cmd : Command) → cmd ≡ command.Plan → planLine w ≡ answered w cmd
+unfolding answered
+act-plan w cmd e = ap (answered w) (sym e)

@@ -27,11 +27,16 @@ use Rattle.rounds.specs.Plans.{AfterPlan, afterPlan, planCall, toldOutcome, sho
 use Rattle.lines.specs.Replies as Replies
 use Rattle.lines.specs.Sessions.{site, Said, said, replied, opening, openLine, onRound, saidOf, exchange, admitLine, joinLine, withdrawLine, Heard, heard, world, planLine}
 use Rattle.lines.specs.InnerLines.{lineOf, replyOf, Printable}
-use Rattle.lines.specs.InnerSessions.{outcomeOf, planBy, planned}
+use Rattle.lines.specs.InnerSessions.{saidBy, refusedBy, outcomeOf, planBy, planned}
 use Rattle.lines.specs.declared.texts.Answer.{Answer}
 use Rattle.lines.specs.declared.texts.Output.{Output}
+use Rattle.lines.specs.declared.sessions.Answered.{Answered}
 use Rattle.lines.specs.declared.sessions.Current.{Current}
 use Rattle.lines.specs.declared.sessions.Current.the-variants as current
+
+-- a refused call changes nothing
+said-refused : (a : Answered) (c : Current) (w : ℕ) (l t : List ℕ) → a ≡ refusedBy c w → saidBy a l t ≡ said (Replies.refused w) (site c l t)
+said-refused a c w l t q = ap (λ (x : Answered). saidBy x l t) q
 
 -- ---- open
 
@@ -50,12 +55,13 @@ module _ (key k n : ℕ) (l after : List ℕ) (o : Opened) (is : afterOpen (told
       ap (λ (x : Opened). opening (site c l t) (toldOpened x) after) (sym e)
       ∙ ap (λ (x : AfterOpen). opening (site c l t) (x .told) (x .list)) is
 
-  pub opens-refused : (w : ℕ) → o ≡ opened.Refused w → (t : List ℕ) → said (Replies.refused w) (site c after t) ≡ openLine key k n (site c l t)
+  pub opens-refused : (w : ℕ) → o ≡ opened.Refused w → (a : Answered) → a ≡ refusedBy c w → (t : List ℕ) → saidBy a after t ≡ openLine key k n (site c l t)
   unfolding openLine
-  opens-refused w e t =
+  opens-refused w e a q t =
       let told : openCall key k n l .told ≡ refusal w = sym (ap (λ (x : AfterOpen). x .told) is) ∙ ap toldOpened e in
       let same : after ≡ l = ap (λ (x : AfterOpen). x .list) is ∙ open-keeps key k n l w told in
-      ap (λ (x : List ℕ). said (Replies.refused w) (site c x t)) same
+      said-refused a c w after t q
+      ∙ ap (λ (x : List ℕ). said (Replies.refused w) (site c x t)) same
       ∙ ap (λ (x : Told Round). opening (site c l t) x (openCall key k n l .list)) (sym told)
 
 -- ---- admit, join, withdraw
@@ -68,17 +74,18 @@ on-round : {A : Type 0} (c : Current) (r : Round) (before : A) (f : Round → A)
 on-round c r before f e = ap (λ (x : Current). onRound x before f) (sym e)
 
 module _ (c : Current) (l t : List ℕ) where
-  pub admit-none : c ≡ current.Nothing → said (Replies.refused 12) (site c l t) ≡ admitLine (site c l t)
-  unfolding admitLine
-  admit-none e = none-yet c _ _ e
+  module _ (a : Answered) (q : a ≡ refusedBy c 12) (e : c ≡ current.Nothing) where
+    pub admit-none : saidBy a l t ≡ admitLine (site c l t)
+    unfolding admitLine
+    admit-none = said-refused a c 12 l t q ∙ none-yet c _ _ e
 
-  pub join-none : c ≡ current.Nothing → said (Replies.refused 12) (site c l t) ≡ joinLine (site c l t)
-  unfolding joinLine
-  join-none e = none-yet c _ _ e
+    pub join-none : saidBy a l t ≡ joinLine (site c l t)
+    unfolding joinLine
+    join-none = said-refused a c 12 l t q ∙ none-yet c _ _ e
 
-  pub withdraw-none : (x : ℕ) → c ≡ current.Nothing → said (Replies.refused 12) (site c l t) ≡ withdrawLine x (site c l t)
-  unfolding withdrawLine
-  withdraw-none x e = none-yet c _ _ e
+    pub withdraw-none : (x : ℕ) → saidBy a l t ≡ withdrawLine x (site c l t)
+    unfolding withdrawLine
+    withdraw-none x = said-refused a c 12 l t q ∙ none-yet c _ _ e
 
   module _ (r : Round) (e : c ≡ current.Open r) (x : Answer) where
     pub admit-on : (a : Admission) (l′ : List ℕ) → admission a l′ t ≡ admitCall (state r l t) → lineOf x ≡ replied exchange (Reservoir.toldExchange (a .exchange))

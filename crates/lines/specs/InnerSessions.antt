@@ -14,12 +14,17 @@ use Rattle.lines.specs.InnerLines.{lineOf, replyOf, Put}
 use Rattle.lines.specs.declared.texts.Answer.the-variants as answer
 use Rattle.lines.specs.declared.texts.Output.{Output}
 use Rattle.lines.specs.declared.texts.Output.the-variants as output
+use Rattle.lines.specs.declared.sessions.Current.{Current}
 use Rattle.lines.specs.declared.sessions.Answered.{Answered}
 use Rattle.lines.specs.declared.sessions.Acted.{Acted}
 
 -- an answer with the round after it, the list and the table
 abbrev pub saidBy : Answered → List ℕ → List ℕ → Said
 saidBy a l t = said (lineOf (a .answer)) (site (a .current) l t)
+
+-- a refusal, and the round as it was
+abbrev pub refusedBy : Current → ℕ → Answered
+refusedBy c w = record { current = c; answer = answer.Refused w }
 
 -- a plan's outcome as output
 abbrev pub outcomeOf : Outcome → ℕ → Output

@@ -56,7 +56,7 @@ withdrawnWord = 119 ∷ 105 ∷ 116 ∷ 104 ∷ 100 ∷ 114 ∷ 97 ∷ 119 ∷ 1
 abbrev pub refusedWord : List ℕ
 refusedWord = 114 ∷ 101 ∷ 102 ∷ 117 ∷ 115 ∷ 101 ∷ 100 ∷ []
 
--- a plan that is not refused has a terminal at every place (law `plan-dealt`)
+-- in a plan every sheet has a terminal (`sheets` in rounds' Plans.antt); the text of none is never asked for
 abbrev pub slotText : Option ℕ → List ℕ
 slotText none = []
 slotText (some s) = tabbed s

@@ -9,7 +9,7 @@ ghost use Rattle.lines.specs.Replies.{joined, withdrawn, textOf};
 ghost use Rattle.lines.specs.Sessions.{site, world, replied, exchange, openLine, admitLine, joinLine, withdrawLine, planLine, answered, hear};
 ghost use Rattle.lines.specs.Streams.{heldMost, stand, roomFor, worldOf, afterCall, feedCall, endCall, Spared};
 ghost use Rattle.lines.specs.InnerLines.{lineOf, replyOf, Printable, Put};
-ghost use Rattle.lines.specs.InnerSessions.{saidBy, planBy, planned, outcomeOf, spokenOf, actBy, Holds, Says, Stepped, Took};
+ghost use Rattle.lines.specs.InnerSessions.{saidBy, refusedBy, planBy, planned, outcomeOf, spokenOf, actBy, Holds, Says, Stepped, Took};
 use crate::commands;
 use crate::commands::Command;
 use crate::texts;
@@ -83,6 +83,15 @@ pub struct Answered {
     pub answer: Answer,
 }
 
+fn refused(current: Current, w: u32) -> Answered
+    ensures { λ a. ⌜ a ≡ refusedBy current w ⌝ }
+{
+    Answered {
+        current,
+        answer: Answer::Refused(w),
+    }
+}
+
 // The table is not lent to an open.
 fn opens(current: Current, key: u64, k: u32, n: u32, list: &mut [u32]) -> Answered
     ensures { λ a. ⌜ ((t : List ℕ) → saidBy a (now (list .exit)) t ≡ openLine key k n (site current (now (list .entry)) t)) ⌝ }
@@ -92,10 +101,7 @@ fn opens(current: Current, key: u64, k: u32, n: u32, list: &mut [u32]) -> Answer
             current: Current::Open(r),
             answer: Answer::Opened,
         },
-        Opened::Refused(w) => Answered {
-            current,
-            answer: Answer::Refused(w),
-        },
+        Opened::Refused(w) => refused(current, w),
     }
 }
 
@@ -103,10 +109,7 @@ fn admits(current: Current, list: &mut [u32], table: &[u8]) -> Answered
     ensures { λ a. ⌜ saidBy a (now (list .exit)) (now (table .entry)) ≡ admitLine (site current (now (list .entry)) (now (table .entry))) ⌝ }
 {
     match current {
-        Current::Nothing => Answered {
-            current,
-            answer: Answer::Refused(12),
-        },
+        Current::Nothing => refused(current, 12),
         Current::Open(r) => {
             let a = round::admitted(r, list, table);
             let after = a.round;
@@ -123,10 +126,7 @@ fn joins(current: Current, list: &[u32], table: &mut [u8]) -> Answered
     ensures { λ a. ⌜ saidBy a (now (list .entry)) (now (table .exit)) ≡ joinLine (site current (now (list .entry)) (now (table .entry))) ⌝ }
 {
     match current {
-        Current::Nothing => Answered {
-            current,
-            answer: Answer::Refused(12),
-        },
+        Current::Nothing => refused(current, 12),
         Current::Open(r) => {
             let a = round::joined(r, list, table);
             let after = a.round;
@@ -143,10 +143,7 @@ fn withdraws(current: Current, list: &[u32], table: &mut [u8], slot: u32) -> Ans
     ensures { λ a. ⌜ saidBy a (now (list .entry)) (now (table .exit)) ≡ withdrawLine slot (site current (now (list .entry)) (now (table .entry))) ⌝ }
 {
     match current {
-        Current::Nothing => Answered {
-            current,
-            answer: Answer::Refused(12),
-        },
+        Current::Nothing => refused(current, 12),
         Current::Open(r) => {
             let a = round::withdrawn(r, list, table, slot);
             let after = a.round;
@@ -227,10 +224,7 @@ fn act(
             current,
             output: plans(current, list, table, locations, terminals, scratch),
         },
-        Command::Unknown => Acted {
-            current,
-            output: Output::Line(Answer::Refused(12)),
-        },
+        Command::Unknown => spoken(refused(current, 12)),
     }
 }
 

@@ -1,177 +1,136 @@
+-- `stocktake::run` meets its contract.
+-- Assumes nothing.
 use mathlib.Core.Path.{_≡_, sym}
 use native.Mathlib.Omega.{arith}
+use borrow.Author.Needs.{needs}
 use lib.ListN.{length}
 use lib.Seq.{length-take-le}
-use borrow.Author.Needs.{needs}
 use Rattle.stocktake.proofs.PieceLaws.{finish-puts}
-use borrow.Author.Needs.{needs}
 use Rattle.stocktake.proofs.run.Statement.{statement}
 use Rattle.stocktake.proofs.run.Tie as tie
-use Rattle.stocktake.proofs.run.Reads as reads
-use Rattle.stocktake.proofs.run.Lts as lts
-use Rattle.lines.proofs.sessions.Session.new.Reads as new-reads
-use Rattle.lines.proofs.sessions.finish.Reads as finish-reads
-use Rattle.stocktake.proofs.fed.Reads as fed-reads
-use Rattle.stocktake.proofs.get.Reads as get-reads
-use Rattle.stocktake.proofs.passed.Reads as passed-reads
 
 abbrev Inv-loop : tie.InvT-loop
-Inv-loop input₀ line₀ list₀ table₀ locations₀ terminals₀ scratch₀ out₀ s₀ turns₀ input line list table locations terminals scratch out s turns = (length input ≡ length input₀) × (length line ≡ length line₀) × (length list ≡ length list₀) × (length table ≡ length table₀) × (length locations ≡ length locations₀) × (length terminals ≡ length terminals₀) × (length scratch ≡ length scratch₀) × (length out ≡ length out₀)
+Inv-loop input₀ line₀ list₀ table₀ locations₀ terminals₀ scratch₀ out₀ s₀ turns₀ input line list table locations terminals scratch out s turns =
+    (length input ≡ length input₀) × (length line ≡ length line₀) × (length list ≡ length list₀) × (length table ≡ length table₀) × (length locations ≡ length locations₀)
+    × (length terminals ≡ length terminals₀) × (length scratch ≡ length scratch₀) × (length out ≡ length out₀)
 
 abbrev μ-loop : tie.MeasureT-loop
 μ-loop input₀ line₀ list₀ table₀ locations₀ terminals₀ scratch₀ out₀ s₀ turns₀ input line list table locations terminals scratch out s turns = turns
 
--- src/main.rt:98:9
 new-requires : tie.Need-new-requires Inv-loop μ-loop
 new-requires c κs = search needs
 
--- src/main.rt:100:5
 loop-holds : tie.Need-loop-holds Inv-loop μ-loop
 loop-holds c = search needs
 
--- src/main.rt:101:13
 get-requires : tie.Need-get-requires Inv-loop μ-loop
 get-requires c κs = search needs
 
--- src/main.rt:103:17
 finish-requires : tie.Need-finish-requires Inv-loop μ-loop
 finish-requires c κs = search needs
 
--- src/main.rt:107:13
 passed-requires : tie.Need-passed-requires Inv-loop μ-loop
-passed-requires c κs = let l = c .before .before .before .before .before .before .before .before .before .before .before .before .before .before .before .before .before .before .before .before .before .before .before .before .before .before .before .before .before .loop in
-    let call = c .before .before .before .before .before .before .before .before .before .before .before .before .before .before .before .finish in
-    finish-puts _ (l .line) _ (l .out) (call .result) _ _ _ (call .ensures .0) (call .kept .1 .1 .1 .1 .1 .1 .1 .0)
+passed-requires c κs =
+    let f = c .before .before .before .before .before .before .before .before .before .before .before .before .before .before .before in
+    let l = f .before .before .before .before .before .before .before .before .before .before .before .before .before .before .loop in
+    finish-puts _ (l .line) _ (l .out) (f .finish .result) _ _ _ (f .finish .ensures .0) (f .finish .kept .1 .1 .1 .1 .1 .1 .1 .0)
 
--- src/main.rt:108:13
 same-length : tie.Need-same-length Inv-loop μ-loop
 same-length c = search needs
 
--- src/main.rt:108:13
 same-length-2 : tie.Need-same-length-2 Inv-loop μ-loop
 same-length-2 c = search needs
 
--- src/main.rt:108:13
 same-length-3 : tie.Need-same-length-3 Inv-loop μ-loop
 same-length-3 c = search needs
 
--- src/main.rt:108:13
 same-length-4 : tie.Need-same-length-4 Inv-loop μ-loop
 same-length-4 c = search needs
 
--- src/main.rt:108:13
 same-length-5 : tie.Need-same-length-5 Inv-loop μ-loop
 same-length-5 c = search needs
 
--- src/main.rt:108:13
 same-length-6 : tie.Need-same-length-6 Inv-loop μ-loop
 same-length-6 c = search needs
 
--- src/main.rt:108:13
 same-length-7 : tie.Need-same-length-7 Inv-loop μ-loop
 same-length-7 c = search needs
 
--- src/main.rt:108:13
 same-length-8 : tie.Need-same-length-8 Inv-loop μ-loop
 same-length-8 c = search needs
 
--- src/main.rt:108:13
 returns : tie.Need-returns Inv-loop μ-loop
 returns c = search needs
 
--- src/main.rt:111:13
 slice-reshare-prefix-fed : tie.Need-slice-reshare-prefix-fed Inv-loop μ-loop
 slice-reshare-prefix-fed c = search needs
 
--- src/main.rt:111:13
 slice-aggregate-fed : tie.Need-slice-aggregate-fed Inv-loop μ-loop
 slice-aggregate-fed c = sym (length-take-le _ _ (omega arith))
 
--- src/main.rt:110:13
 fed-requires : tie.Need-fed-requires Inv-loop μ-loop
 fed-requires c κs = search needs
 
--- src/main.rt:123:13
 same-length-9 : tie.Need-same-length-9 Inv-loop μ-loop
 same-length-9 c = search needs
 
--- src/main.rt:123:13
 same-length-10 : tie.Need-same-length-10 Inv-loop μ-loop
 same-length-10 c = search needs
 
--- src/main.rt:123:13
 same-length-11 : tie.Need-same-length-11 Inv-loop μ-loop
 same-length-11 c = search needs
 
--- src/main.rt:123:13
 same-length-12 : tie.Need-same-length-12 Inv-loop μ-loop
 same-length-12 c = search needs
 
--- src/main.rt:123:13
 same-length-13 : tie.Need-same-length-13 Inv-loop μ-loop
 same-length-13 c = search needs
 
--- src/main.rt:123:13
 same-length-14 : tie.Need-same-length-14 Inv-loop μ-loop
 same-length-14 c = search needs
 
--- src/main.rt:123:13
 same-length-15 : tie.Need-same-length-15 Inv-loop μ-loop
 same-length-15 c = search needs
 
--- src/main.rt:123:13
 same-length-16 : tie.Need-same-length-16 Inv-loop μ-loop
 same-length-16 c = search needs
 
--- src/main.rt:123:13
 returns-2 : tie.Need-returns-2 Inv-loop μ-loop
 returns-2 c = search needs
 
--- src/main.rt:126:9
 sub-turns : tie.Need-sub-turns Inv-loop μ-loop
 sub-turns c = search needs
 
--- src/main.rt:100:5
 loop-less : tie.Need-loop-less Inv-loop μ-loop
 loop-less c = search needs
 
--- src/main.rt:100:5
 loop-again : tie.Need-loop-again Inv-loop μ-loop
 loop-again c = search needs
 
--- src/main.rt:88:1
 same-length-17 : tie.Need-same-length-17 Inv-loop μ-loop
 same-length-17 c = search needs
 
--- src/main.rt:88:1
 same-length-18 : tie.Need-same-length-18 Inv-loop μ-loop
 same-length-18 c = search needs
 
--- src/main.rt:88:1
 same-length-19 : tie.Need-same-length-19 Inv-loop μ-loop
 same-length-19 c = search needs
 
--- src/main.rt:88:1
 same-length-20 : tie.Need-same-length-20 Inv-loop μ-loop
 same-length-20 c = search needs
 
--- src/main.rt:88:1
 same-length-21 : tie.Need-same-length-21 Inv-loop μ-loop
 same-length-21 c = search needs
 
--- src/main.rt:88:1
 same-length-22 : tie.Need-same-length-22 Inv-loop μ-loop
 same-length-22 c = search needs
 
--- src/main.rt:88:1
 same-length-23 : tie.Need-same-length-23 Inv-loop μ-loop
 same-length-23 c = search needs
 
--- src/main.rt:88:1
 same-length-24 : tie.Need-same-length-24 Inv-loop μ-loop
 same-length-24 c = search needs
 
--- src/main.rt:88:1
 returns-3 : tie.Need-returns-3 Inv-loop μ-loop
 returns-3 c = search needs
 

@@ -1,154 +1,122 @@
-use mathlib.Core.Path.{_∙_}
-use Rattle.lines.proofs.ActLaws.{act-open, act-admit, act-join, act-withdraw, act-plan, act-unknown}
+-- `lines::sessions::act` meets its contract.
+-- Assumes nothing.
+use mathlib.Core.Path.{_∙_, refl}
 use borrow.Author.Needs.{needs}
+use Rattle.lines.proofs.ActLaws.{act-open, act-admit, act-join, act-withdraw, act-plan, act-unknown}
 use Rattle.lines.proofs.sessions.act.Statement.{statement}
 use Rattle.lines.proofs.sessions.act.Tie as tie
-use Rattle.lines.proofs.sessions.act.Reads as reads
-use Rattle.lines.proofs.sessions.act.Lts as lts
-use Rattle.lines.proofs.sessions.admits.Reads as admits-reads
-use Rattle.lines.proofs.sessions.joins.Reads as joins-reads
-use Rattle.lines.proofs.sessions.opens.Reads as opens-reads
-use Rattle.lines.proofs.sessions.plans.Reads as plans-reads
-use Rattle.lines.proofs.sessions.spoken.Reads as spoken-reads
-use Rattle.lines.proofs.sessions.withdraws.Reads as withdraws-reads
 
--- src/sessions.rt:222:25
 enum-known-command : tie.Need-enum-known-command
 enum-known-command c = search needs
 
--- src/sessions.rt:222:47
 opens-requires : tie.Need-opens-requires
 opens-requires c κs = search needs
 
--- src/sessions.rt:222:40
 spoken-requires : tie.Need-spoken-requires
 spoken-requires c κs = search needs
 
--- src/sessions.rt:223:50
 enum-told : tie.Need-enum-told
 enum-told c = search needs
 
--- src/sessions.rt:223:34
 admits-requires : tie.Need-admits-requires
 admits-requires c κs = search needs
 
--- src/sessions.rt:223:27
 spoken-requires-2 : tie.Need-spoken-requires-2
 spoken-requires-2 c κs = search needs
 
--- src/sessions.rt:224:48
 enum-told-2 : tie.Need-enum-told-2
 enum-told-2 c = search needs
 
--- src/sessions.rt:224:33
 joins-requires : tie.Need-joins-requires
 joins-requires c κs = search needs
 
--- src/sessions.rt:224:26
 spoken-requires-3 : tie.Need-spoken-requires-3
 spoken-requires-3 c κs = search needs
 
--- src/sessions.rt:225:27
 enum-known-command-2 : tie.Need-enum-known-command-2
 enum-known-command-2 c = search needs
 
--- src/sessions.rt:225:43
 withdraws-requires : tie.Need-withdraws-requires
 withdraws-requires c κs = search needs
 
--- src/sessions.rt:225:36
 spoken-requires-4 : tie.Need-spoken-requires-4
 spoken-requires-4 c κs = search needs
 
--- src/sessions.rt:228:36
 enum-told-3 : tie.Need-enum-told-3
 enum-told-3 c = search needs
 
--- src/sessions.rt:228:21
 plans-requires : tie.Need-plans-requires
 plans-requires c κs = search needs
 
--- src/sessions.rt:232:34
 enum-told-4 : tie.Need-enum-told-4
 enum-told-4 c = search needs
 
--- src/sessions.rt:209:1
+refused-requires : tie.Need-refused-requires
+refused-requires c κs = search needs
+
+spoken-requires-5 : tie.Need-spoken-requires-5
+spoken-requires-5 c κs = search needs
+
 same-length : tie.Need-same-length
 same-length c = search needs
 
--- src/sessions.rt:209:1
 returns : tie.Need-returns
 returns c = let call = c .before .before .before .opens in
-    let arm = c .before .before .before .before .before .before .command in
-    act-open _ _ _ _ _ _ _ _ _ (call .result) (c .spoken .result) (c .spoken .ensures) _ _ _ (arm .given .1) (call .ensures _)
+    act-open _ _ _ _ _ _ _ _ _ (call .result) (c .spoken .result) (c .spoken .ensures) _ _ _ (c .before .before .before .before .before .before .command .given .1) (call .ensures _)
 
--- src/sessions.rt:209:1
 same-length-2 : tie.Need-same-length-2
 same-length-2 c = search needs
 
--- src/sessions.rt:209:1
 same-length-3 : tie.Need-same-length-3
 same-length-3 c = search needs
 
--- src/sessions.rt:209:1
 returns-2 : tie.Need-returns-2
 returns-2 c = let call = c .before .before .before .admits in
     act-admit _ _ _ _ _ _ _ _ _ (call .result) (c .spoken2 .result) (c .spoken2 .ensures) (c .before .before .before .before .before .before .enum-told .given .1) (call .ensures)
 
--- src/sessions.rt:209:1
 same-length-4 : tie.Need-same-length-4
 same-length-4 c = search needs
 
--- src/sessions.rt:209:1
 same-length-5 : tie.Need-same-length-5
 same-length-5 c = search needs
 
--- src/sessions.rt:209:1
 returns-3 : tie.Need-returns-3
 returns-3 c = let call = c .before .before .before .joins in
     act-join _ _ _ _ _ _ _ _ _ (call .result) (c .spoken3 .result) (c .spoken3 .ensures) (c .before .before .before .before .before .before .enum-told2 .given .1) (call .ensures)
 
--- src/sessions.rt:209:1
 same-length-6 : tie.Need-same-length-6
 same-length-6 c = search needs
 
--- src/sessions.rt:209:1
 same-length-7 : tie.Need-same-length-7
 same-length-7 c = search needs
 
--- src/sessions.rt:209:1
 returns-4 : tie.Need-returns-4
 returns-4 c = let call = c .before .before .before .withdraws in
     act-withdraw _ _ _ _ _ _ _ _ _ (call .result) (c .spoken4 .result) (c .spoken4 .ensures) _ (c .before .before .before .before .before .before .before .command2 .given .1) (call .ensures)
 
--- src/sessions.rt:209:1
 same-length-8 : tie.Need-same-length-8
 same-length-8 c = search needs
 
--- src/sessions.rt:209:1
 same-length-9 : tie.Need-same-length-9
 same-length-9 c = search needs
 
--- src/sessions.rt:209:1
 same-length-10 : tie.Need-same-length-10
 same-length-10 c = search needs
 
--- src/sessions.rt:209:1
 same-length-11 : tie.Need-same-length-11
 same-length-11 c = search needs
 
--- src/sessions.rt:209:1
 same-length-12 : tie.Need-same-length-12
 same-length-12 c = search needs
 
--- src/sessions.rt:209:1
 returns-5 : tie.Need-returns-5
-returns-5 c = let call = c .before .before .before .before .before .before .plans in
-    (call .ensures .0 ∙ act-plan _ _ (c .before .before .before .before .before .before .before .before .before .before .before .before .enum-told3 .given .1), call .ensures .1)
+returns-5 c =
+    let at = c .before .before .before .before .before .before in
+    (at .plans .ensures .0 ∙ act-plan _ _ (at .before .before .before .before .before .before .enum-told3 .given .1), at .plans .ensures .1)
 
--- src/sessions.rt:209:1
 returns-6 : tie.Need-returns-6
-returns-6 c = (act-unknown _ _ (c .enum-told4 .given .1), tt)
+returns-6 c = let call = c .before .refused in
+    act-unknown _ _ _ _ _ _ _ _ _ (call .result) (c .spoken5 .result) (c .spoken5 .ensures) (c .before .before .enum-told4 .given .1) refl refl (call .ensures)
 
 pub act-spec : {M : Type 1} → statement M
 act-spec =
@@ -169,6 +137,8 @@ act-spec =
     enum-told-3
     plans-requires
     enum-told-4
+    refused-requires
+    spoken-requires-5
     same-length
     returns
     same-length-2

@@ -1,34 +1,28 @@
+-- `lines::sessions::exchange_line` meets its contract.
+-- Assumes nothing.
 use mathlib.Core.Path.{sym, ap}
+use borrow.Author.Needs.{needs}
 use Rattle.orders.specs.declared.consistent_reservoir.Exchange.{Exchange}
 use Rattle.orders.specs.ReservoirCalls.{toldExchange}
 use Rattle.lines.specs.Sessions.{replied, exchange}
-use borrow.Author.Needs.{needs}
 use Rattle.lines.proofs.sessions.exchange_line.Statement.{statement}
 use Rattle.lines.proofs.sessions.exchange_line.Tie as tie
-use Rattle.lines.proofs.sessions.exchange_line.Reads as reads
-use Rattle.lines.proofs.sessions.exchange_line.Lts as lts
 
--- src/sessions.rt:54:25
 enum-known-e : tie.Need-enum-known-e
 enum-known-e c = search needs
 
--- src/sessions.rt:55:30
 enum-told : tie.Need-enum-told
 enum-told c = search needs
 
--- src/sessions.rt:56:27
 enum-known-e-2 : tie.Need-enum-known-e-2
 enum-known-e-2 c = search needs
 
--- src/sessions.rt:50:1
 returns : tie.Need-returns
 returns c = ap (λ (x : Exchange). replied exchange (toldExchange x)) (sym (c .before .e .given .1))
 
--- src/sessions.rt:50:1
 returns-2 : tie.Need-returns-2
 returns-2 c = search needs
 
--- src/sessions.rt:50:1
 returns-3 : tie.Need-returns-3
 returns-3 c = ap (λ (x : Exchange). replied exchange (toldExchange x)) (sym (c .before .e2 .given .1))
 

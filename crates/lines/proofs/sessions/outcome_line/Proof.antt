@@ -1,27 +1,23 @@
+-- `lines::sessions::outcome_line` meets its contract.
+-- Assumes nothing.
 use mathlib.Core.Path.{sym, ap}
+use borrow.Author.Needs.{needs}
 use Rattle.choosers.specs.declared.node_map.Outcome.{Outcome}
 use Rattle.choosers.specs.SlotCalls.{toldOutcome}
 use Rattle.lines.specs.Replies.{withdrawn}
 use Rattle.lines.specs.Sessions.{replied}
-use borrow.Author.Needs.{needs}
 use Rattle.lines.proofs.sessions.outcome_line.Statement.{statement}
 use Rattle.lines.proofs.sessions.outcome_line.Tie as tie
-use Rattle.lines.proofs.sessions.outcome_line.Reads as reads
-use Rattle.lines.proofs.sessions.outcome_line.Lts as lts
 
--- src/sessions.rt:73:26
 enum-told : tie.Need-enum-told
 enum-told c = search needs
 
--- src/sessions.rt:74:26
 enum-known-o : tie.Need-enum-known-o
 enum-known-o c = search needs
 
--- src/sessions.rt:69:1
 returns : tie.Need-returns
 returns c = ap (λ (x : Outcome). replied (λ u. withdrawn (c .before .before .args .slot)) (toldOutcome x)) (sym (c .enum-told .given .1))
 
--- src/sessions.rt:69:1
 returns-2 : tie.Need-returns-2
 returns-2 c = ap (λ (x : Outcome). replied (λ u. withdrawn (c .before .before .before .args .slot)) (toldOutcome x)) (sym (c .before .o .given .1))
 

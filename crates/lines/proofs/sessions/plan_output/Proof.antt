@@ -1,25 +1,21 @@
+-- `lines::sessions::plan_output` meets its contract.
+-- Assumes nothing.
 use mathlib.Core.Path.{sym, ap}
+use borrow.Author.Needs.{needs}
 use Rattle.choosers.specs.declared.node_map.Outcome.{Outcome}
 use Rattle.lines.specs.InnerSessions.{outcomeOf}
-use borrow.Author.Needs.{needs}
 use Rattle.lines.proofs.sessions.plan_output.Statement.{statement}
 use Rattle.lines.proofs.sessions.plan_output.Tie as tie
-use Rattle.lines.proofs.sessions.plan_output.Reads as reads
-use Rattle.lines.proofs.sessions.plan_output.Lts as lts
 
--- src/sessions.rt:166:26
 enum-told : tie.Need-enum-told
 enum-told c = search needs
 
--- src/sessions.rt:167:26
 enum-known-o : tie.Need-enum-known-o
 enum-known-o c = search needs
 
--- src/sessions.rt:162:1
 returns : tie.Need-returns
 returns c = ap (λ (x : Outcome). outcomeOf x (c .before .before .args .k)) (sym (c .enum-told .given .1))
 
--- src/sessions.rt:162:1
 returns-2 : tie.Need-returns-2
 returns-2 c = ap (λ (x : Outcome). outcomeOf x (c .before .before .before .args .k)) (sym (c .before .o .given .1))
 

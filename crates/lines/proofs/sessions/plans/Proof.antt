@@ -1,46 +1,35 @@
-use Rattle.lines.proofs.LineLaws.{plan-none, plan-on, plan-prints}
+-- `lines::sessions::plans` meets its contract.
+-- Assumes nothing.
 use native.Mathlib.Omega.{arith}
 use borrow.Author.Needs.{needs}
+use Rattle.lines.proofs.LineLaws.{plan-none, plan-on, plan-prints}
 use Rattle.lines.proofs.sessions.plans.Statement.{statement}
 use Rattle.lines.proofs.sessions.plans.Tie as tie
-use Rattle.lines.proofs.sessions.plans.Reads as reads
-use Rattle.lines.proofs.sessions.plans.Lts as lts
-use Rattle.lines.proofs.sessions.plan_output.Reads as plan-output-reads
-use Rattle.rounds.proofs.round.plan.Reads as plan-reads
 
--- src/sessions.rt:183:42
 enum-told : tie.Need-enum-told
 enum-told c = search needs
 
--- src/sessions.rt:184:23
 enum-known-current : tie.Need-enum-known-current
 enum-known-current c = search needs
 
--- src/sessions.rt:185:13
 plan-requires : tie.Need-plan-requires
 plan-requires c κs = search needs
 
--- src/sessions.rt:184:29
 plan-output-requires : tie.Need-plan-output-requires
 plan-output-requires c κs = search needs
 
--- src/sessions.rt:171:1
 returns : tie.Need-returns
 returns c = (plan-none _ _ _ _ _ _ (c .enum-told .given .1), tt)
 
--- src/sessions.rt:171:1
 same-length : tie.Need-same-length
 same-length c = search needs
 
--- src/sessions.rt:171:1
 same-length-2 : tie.Need-same-length-2
 same-length-2 c = search needs
 
--- src/sessions.rt:171:1
 same-length-3 : tie.Need-same-length-3
 same-length-3 c = search needs
 
--- src/sessions.rt:171:1
 returns-2 : tie.Need-returns-2
 returns-2 c =
     let call = c .before .before .before .before .before .before .before .plan in

@@ -1,27 +1,23 @@
+-- `lines::sessions::slot_line` meets its contract.
+-- Assumes nothing.
 use mathlib.Core.Path.{sym, ap}
+use borrow.Author.Needs.{needs}
 use Rattle.choosers.specs.declared.node_map.Slot.{Slot}
 use Rattle.choosers.specs.SlotCalls.{toldSlot}
 use Rattle.lines.specs.Replies.{joined}
 use Rattle.lines.specs.Sessions.{replied}
-use borrow.Author.Needs.{needs}
 use Rattle.lines.proofs.sessions.slot_line.Statement.{statement}
 use Rattle.lines.proofs.sessions.slot_line.Tie as tie
-use Rattle.lines.proofs.sessions.slot_line.Reads as reads
-use Rattle.lines.proofs.sessions.slot_line.Lts as lts
 
--- src/sessions.rt:64:22
 enum-known-s : tie.Need-enum-known-s
 enum-known-s c = search needs
 
--- src/sessions.rt:65:23
 enum-known-s-2 : tie.Need-enum-known-s-2
 enum-known-s-2 c = search needs
 
--- src/sessions.rt:60:1
 returns : tie.Need-returns
 returns c = ap (λ (x : Slot). replied joined (toldSlot x)) (sym (c .before .s .given .1))
 
--- src/sessions.rt:60:1
 returns-2 : tie.Need-returns-2
 returns-2 c = ap (λ (x : Slot). replied joined (toldSlot x)) (sym (c .before .s2 .given .1))
 

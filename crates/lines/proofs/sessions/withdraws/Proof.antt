@@ -1,40 +1,33 @@
-use Rattle.lines.proofs.LineLaws.{withdraw-none, withdraw-on}
+-- `lines::sessions::withdraws` meets its contract.
+-- Assumes nothing.
 use borrow.Author.Needs.{needs}
+use Rattle.lines.proofs.LineLaws.{withdraw-none, withdraw-on}
 use Rattle.lines.proofs.sessions.withdraws.Statement.{statement}
 use Rattle.lines.proofs.sessions.withdraws.Tie as tie
-use Rattle.lines.proofs.sessions.withdraws.Reads as reads
-use Rattle.lines.proofs.sessions.withdraws.Lts as lts
-use Rattle.lines.proofs.sessions.outcome_line.Reads as outcome-line-reads
-use Rattle.rounds.proofs.round.withdrawn.Reads as withdrawn-reads
 
--- src/sessions.rt:148:21
 enum-told : tie.Need-enum-told
 enum-told c = search needs
 
--- src/sessions.rt:150:23
+refused-requires : tie.Need-refused-requires
+refused-requires c κs = search needs
+
 enum-known-current : tie.Need-enum-known-current
 enum-known-current c = search needs
 
--- src/sessions.rt:151:17
 withdrawn-requires : tie.Need-withdrawn-requires
 withdrawn-requires c κs = search needs
 
--- src/sessions.rt:156:25
 outcome-line-requires : tie.Need-outcome-line-requires
 outcome-line-requires c κs = search needs
 
--- src/sessions.rt:142:1
 returns : tie.Need-returns
-returns c = withdraw-none _ _ _ _ (c .enum-told .given .1)
+returns c = withdraw-none _ _ _ (c .refused .result) (c .refused .ensures) (c .before .enum-told .given .1) _
 
--- src/sessions.rt:142:1
 same-length : tie.Need-same-length
 same-length c = search needs
 
--- src/sessions.rt:142:1
 returns-2 : tie.Need-returns-2
-returns-2 c =
-    let call = c .before .before .before .before .withdrawn in
+returns-2 c = let call = c .before .before .before .before .withdrawn in
     let given = c .before .before .before .before .before .before .before .current .given .1 in
     withdraw-on _ _ _ _ given (c .outcome-line .result) _ (call .result) _ (call .ensures) (c .outcome-line .ensures)
 
@@ -43,6 +36,7 @@ withdraws-spec =
     tie.close
     (tie.spec
     enum-told
+    refused-requires
     enum-known-current
     withdrawn-requires
     outcome-line-requires

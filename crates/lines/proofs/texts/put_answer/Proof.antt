@@ -3,8 +3,8 @@
 use mathlib.Core.Path.{_≡_}
 use borrow.Author.Needs.{needs}
 use Rattle.lines.specs.Replies.{textOf}
-use Rattle.lines.specs.declared.texts.Answer.the-variants as answer
 use Rattle.lines.proofs.texts.put_answer.Statement.{statement}
+use Rattle.lines.specs.declared.texts.Answer.the-variants as answer
 use Rattle.lines.proofs.texts.put_answer.Tie as tie
 
 enum-told : tie.Need-enum-told

@@ -6,8 +6,8 @@ use borrow.Author.Needs.{needs}
 use Rattle.lines.specs.Replies.{textOf}
 use Rattle.lines.specs.InnerLines.{Printable}
 use Rattle.lines.specs.declared.texts.Output.{Output}
-use Rattle.lines.specs.declared.texts.Output.the-variants as output
 use Rattle.lines.proofs.texts.put_output.Statement.{statement}
+use Rattle.lines.specs.declared.texts.Output.the-variants as output
 use Rattle.lines.proofs.texts.put_output.Tie as tie
 
 -- the call's start, where a plan is put out
