@@ -36,6 +36,25 @@ fn document_answers() -> Vec<u8> {
     joined(DOCUMENT.map(|(_, answer)| answer.replace(',', "\t")))
 }
 
+/// README's worked example.
+fn example() -> Vec<u8> {
+    let open = open_line(2, 4, 12);
+    joined([
+        open.as_str(),
+        "plan",
+        "join",
+        "join",
+        "plan",
+        "withdraw\t0",
+        "plan",
+        "join",
+        "admit",
+        "plan",
+        "withdraw\t7",
+        "join now",
+    ])
+}
+
 /// A round with two terminals.
 fn opened() -> Vec<u8> {
     joined([open_line(7, 3, 9).as_str(), "join", "join"])
@@ -116,8 +135,9 @@ fn random(seed: u64) -> Vec<u8> {
 /// A set's name and its input.
 type Set = (&'static str, fn() -> Vec<u8>);
 
-const SETS: [Set; 23] = [
+const SETS: [Set; 24] = [
     ("document", document),
+    ("example", example),
     ("before_open", line_bounds::before_open),
     ("opens", line_bounds::opens),
     ("reopened", line_bounds::reopened),

@@ -10,8 +10,8 @@ use Rattle.lines.specs.InnerSessions.{saidBy, refusedBy, spokenOf, actBy
 use Rattle.lines.specs.declared.commands.Command.{Command}
 use Rattle.lines.specs.declared.commands.Command.the-variants as command
 use Rattle.lines.specs.declared.sessions.Current.{Current}
-use Rattle.lines.specs.declared.sessions.Answered.{Answered}
-use Rattle.lines.specs.declared.sessions.Acted.{Acted}
+use Rattle.lines.specs.declared.calls.Answered.{Answered}
+use Rattle.lines.specs.declared.calls.Acted.{Acted}
 
 module _ (c : Current) (l t l′ t′ ls ts : List ℕ) (places : ℕ) (cmd : Command) where
   abbrev before : World

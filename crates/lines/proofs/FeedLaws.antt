@@ -1,9 +1,9 @@
 -- Bytes taken line by line, as the code takes them.
 -- Assumes nothing.
 use mathlib.Core.Path.{_≡_, refl, sym, ap, _∙_, subst}
-use mathlib.Core.Bool.{true, false, or-true}
+use mathlib.Core.Bool.{or-true}
 use mathlib.Core.List.{List, [], _∷_, _++_, append-assoc, append-nil}
-use Prim.Native.Nat.{ℕ, zero, suc, _+_, _-_, _≤_, _<_}
+use Prim.Native.Nat.{ℕ, suc, _+_, _-_, _≤_, _<_}
 use native.Mathlib.Omega.{arith}
 use native.Mathlib.Numerals.{add-one}
 use borrow.Author.Tests.{le-leb, lt-leb, lt-ltb, le-ltb, ne-eqb}
@@ -13,14 +13,14 @@ use lib.Seq.{take-at, take-all, drop-drop, length-take-le, drop-cons}
 use Rattle.lists.specs.Told.{refusal, says}
 use Rattle.lists.specs.Lists.{written}
 use Rattle.lists.proofs.Tests.{by-test}
-use Rattle.lines.specs.Replies.{Reply, textOf}
+use Rattle.lines.specs.Replies.{textOf}
 use Rattle.lines.specs.Commands.{commandOf}
 use Rattle.lines.specs.Sessions.{World, world, site, Heard, hear, answered}
-use Rattle.lines.specs.Streams.{Stand, stand, byte, Partly, partly, fedUpTo, roomFor, count, AfterFeed, afterFeed, worldOf, afterCall, feedCall, endCall, Spared}
+use Rattle.lines.specs.Streams.{Stand, stand, byte, partly, fedUpTo, roomFor, count, AfterFeed, afterFeed, worldOf, afterCall, feedCall, endCall, Spared}
 use Rattle.lines.specs.InnerLines.{placeOf, replyOf, Put}
 use Rattle.lines.specs.InnerSessions.{actBy, Holds, Says, Stepped, Took}
 use Rattle.lines.specs.declared.commands.Command.{Command}
-use Rattle.lines.specs.declared.sessions.Acted.{Acted}
+use Rattle.lines.specs.declared.calls.Acted.{Acted}
 use Rattle.lines.specs.declared.sessions.Session.{Session}
 use Rattle.lines.specs.declared.sessions.Fed.{Fed}
 use Rattle.lines.specs.declared.sessions.Feeding.the-variants as feeding

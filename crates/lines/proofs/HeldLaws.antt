@@ -7,7 +7,6 @@ use native.Mathlib.Omega.{arith}
 use native.Mathlib.Numerals.{add-one}
 use lib.ListN.{length, take, drop, getD, set, length-append, take-append-drop}
 use lib.Seq.{take-suc, take-suc-set, take-at, take-all, length-take-le}
-use Rattle.lines.specs.Commands.{commandOf}
 use Rattle.lines.specs.Sessions.{World, hear}
 use Rattle.lines.specs.InnerSessions.{Holds}
 use Rattle.lines.proofs.CommandLaws.{command-first}

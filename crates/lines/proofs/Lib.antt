@@ -2,6 +2,7 @@ pub mod CommandLaws
 pub mod CommandExamples
 pub mod DecimalLaws
 pub mod PutLaws
+pub mod ReadBackLaws
 pub mod TextExamples
 pub mod HeldLaws
 pub mod StreamLaws
@@ -10,3 +11,4 @@ pub mod ActLaws
 pub mod FeedLaws
 pub mod PartLaws
 pub mod RunLaws
+pub mod LedgerLaws

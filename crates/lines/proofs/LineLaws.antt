@@ -1,15 +1,14 @@
 -- The answers to lines, by the round's calls as the code makes them.
 -- Assumes nothing.
 use mathlib.Core.Path.{_≡_, refl, sym, ap, _∙_, subst}
-use mathlib.Core.Bool.{true, false, _||_, or-true}
+use mathlib.Core.Bool.{or-true}
 use mathlib.Core.List.{List}
-use Prim.Native.Nat.{ℕ, _≤_, min}
+use Prim.Native.Nat.{ℕ, _≤_}
 use native.Mathlib.Omega.{arith}
-use lib.Dec.{ltb, eqb}
-use lib.ListN.{length, take}
+use lib.ListN.{length}
 use Rattle.lists.specs.Told.{Told, refusal, says, mapTold}
 use Rattle.lists.proofs.Tolds.{not-said}
-use Rattle.lists.proofs.Tests.{by-test, by-cond, by-below}
+use Rattle.lists.proofs.Tests.{by-test, by-below}
 use borrow.Author.Tests.{lt-ltb}
 use Rattle.orders.specs.ReservoirCalls as Reservoir
 use Rattle.orders.proofs.ReservoirLaws.{open-kept}
@@ -25,12 +24,12 @@ use Rattle.rounds.specs.declared.round.Withdrawal.{Withdrawal}
 use Rattle.rounds.specs.Rounds.{roundOf, State, state, fitting, AfterOpen, afterOpen, toldOpened, openCall, admission, admitCall, joining, joinCall, withdrawal, withdrawCall}
 use Rattle.rounds.specs.Plans.{AfterPlan, afterPlan, planCall, toldOutcome, shownPlan}
 use Rattle.lines.specs.Replies as Replies
-use Rattle.lines.specs.Sessions.{site, Said, said, replied, opening, openLine, onRound, saidOf, exchange, admitLine, joinLine, withdrawLine, Heard, heard, world, planLine}
+use Rattle.lines.specs.Sessions.{site, said, replied, opening, openLine, onRound, saidOf, exchange, admitLine, joinLine, withdrawLine, heard, world, planLine}
 use Rattle.lines.specs.InnerLines.{lineOf, replyOf, Printable}
 use Rattle.lines.specs.InnerSessions.{saidBy, refusedBy, outcomeOf, planBy, planned}
 use Rattle.lines.specs.declared.texts.Answer.{Answer}
 use Rattle.lines.specs.declared.texts.Output.{Output}
-use Rattle.lines.specs.declared.sessions.Answered.{Answered}
+use Rattle.lines.specs.declared.calls.Answered.{Answered}
 use Rattle.lines.specs.declared.sessions.Current.{Current}
 use Rattle.lines.specs.declared.sessions.Current.the-variants as current
 

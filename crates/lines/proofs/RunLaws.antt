@@ -2,13 +2,13 @@
 -- what the calls put out is the text of the answers to the input's lines, in order.
 -- Assumes nothing.
 use mathlib.Core.Path.{_≡_, sym, ap, _∙_}
-use mathlib.Core.List.{List, [], _∷_, _++_}
+use mathlib.Core.List.{List, [], _++_}
 use Prim.Native.Nat.{ℕ}
 use lib.ListN.{take}
 use Rattle.lists.proofs.Writing.{written-take}
 use Rattle.lines.specs.Lines.{linesOf}
 use Rattle.lines.specs.Sessions.{World, answers}
-use Rattle.lines.specs.Streams.{stand, fed, ended, feedCall, endCall, putOut, whole}
+use Rattle.lines.specs.Streams.{stand, fed, ended, putOut, whole}
 use Rattle.lines.specs.Runs.{Runs, finishes, feeds}
 use Rattle.lines.proofs.StreamLaws.{program}
 use Rattle.lines.proofs.PartLaws.{feed-feeds, feed-text, finish-ends}

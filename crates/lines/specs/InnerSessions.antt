@@ -1,7 +1,7 @@
 -- What private functions promise of a session. No public promise cites this file.
 -- Assumes nothing.
 use mathlib.Core.Path.{_≡_}
-use mathlib.Core.List.{List, _++_}
+use mathlib.Core.List.{List}
 use Prim.Native.Nat.{ℕ, _≤_, _<_}
 use lib.ListN.{length, take, drop}
 use Rattle.lists.specs.Lists.{written}
@@ -9,14 +9,14 @@ use Rattle.choosers.specs.declared.node_map.Outcome.{Outcome}
 use Rattle.choosers.specs.declared.node_map.Outcome.the-variants as outcome
 use Rattle.lines.specs.Sessions.{Site, site, Said, said, World, world, Heard, heard, planLine}
 use Rattle.lines.specs.Replies.{Reply, textOf}
-use Rattle.lines.specs.Streams.{heldMost, Stand, stand, Partly, partly, fedUpTo}
+use Rattle.lines.specs.Streams.{heldMost, Stand, stand, partly, fedUpTo}
 use Rattle.lines.specs.InnerLines.{lineOf, replyOf, Put}
 use Rattle.lines.specs.declared.texts.Answer.the-variants as answer
 use Rattle.lines.specs.declared.texts.Output.{Output}
 use Rattle.lines.specs.declared.texts.Output.the-variants as output
 use Rattle.lines.specs.declared.sessions.Current.{Current}
-use Rattle.lines.specs.declared.sessions.Answered.{Answered}
-use Rattle.lines.specs.declared.sessions.Acted.{Acted}
+use Rattle.lines.specs.declared.calls.Answered.{Answered}
+use Rattle.lines.specs.declared.calls.Acted.{Acted}
 
 -- an answer with the round after it, the list and the table
 abbrev pub saidBy : Answered → List ℕ → List ℕ → Said

@@ -5,7 +5,7 @@ use mathlib.Core.Option.{Option, none, some}
 use Prim.Native.Nat.{ℕ}
 use Rattle.lists.specs.Told.{Told, refusal, says}
 use Rattle.rounds.specs.declared.round.Round.{Round}
-use Rattle.rounds.specs.Rounds.{State, state, openCall, After, admitCall, joinCall, withdrawCall}
+use Rattle.rounds.specs.Rounds.{state, openCall, After, admitCall, joinCall, withdrawCall}
 use Rattle.rounds.specs.Plans.{planCall, shownPlan}
 use Rattle.lines.specs.Commands.{commandOf}
 use Rattle.lines.specs.Replies.{Reply, opened, admitted, nothing, joined, withdrawn, planned, refused, textOf}
@@ -115,6 +115,11 @@ answered w command.Unknown = heard (refused 12) w
 
 unfoldable pub hear : World → List ℕ → Heard
 hear w line = answered w (commandOf line)
+
+-- what stands after lines
+abbrev pub afterLines : World → List (List ℕ) → World
+afterLines w [] = w
+afterLines w (l ∷ ls) = afterLines (hear w l .world) ls
 
 -- the text of the answers to lines in order, each on what the one before left
 abbrev pub answers : World → List (List ℕ) → List ℕ

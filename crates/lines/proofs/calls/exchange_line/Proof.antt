@@ -1,12 +1,12 @@
--- `lines::sessions::exchange_line` meets its contract.
+-- `lines::calls::exchange_line` meets its contract.
 -- Assumes nothing.
 use mathlib.Core.Path.{sym, ap}
 use borrow.Author.Needs.{needs}
 use Rattle.orders.specs.declared.consistent_reservoir.Exchange.{Exchange}
 use Rattle.orders.specs.ReservoirCalls.{toldExchange}
 use Rattle.lines.specs.Sessions.{replied, exchange}
-use Rattle.lines.proofs.sessions.exchange_line.Statement.{statement}
-use Rattle.lines.proofs.sessions.exchange_line.Tie as tie
+use Rattle.lines.proofs.calls.exchange_line.Statement.{statement}
+use Rattle.lines.proofs.calls.exchange_line.Tie as tie
 
 enum-known-e : tie.Need-enum-known-e
 enum-known-e c = search needs

@@ -1,9 +1,9 @@
--- `lines::sessions::joins` meets its contract.
+-- `lines::calls::joins` meets its contract.
 -- Assumes nothing.
 use borrow.Author.Needs.{needs}
 use Rattle.lines.proofs.LineLaws.{join-none, join-on}
-use Rattle.lines.proofs.sessions.joins.Statement.{statement}
-use Rattle.lines.proofs.sessions.joins.Tie as tie
+use Rattle.lines.proofs.calls.joins.Statement.{statement}
+use Rattle.lines.proofs.calls.joins.Tie as tie
 
 enum-told : tie.Need-enum-told
 enum-told c = search needs

@@ -1,4 +1,4 @@
--- `lines::sessions::outcome_line` meets its contract.
+-- `lines::calls::outcome_line` meets its contract.
 -- Assumes nothing.
 use mathlib.Core.Path.{sym, ap}
 use borrow.Author.Needs.{needs}
@@ -6,8 +6,8 @@ use Rattle.choosers.specs.declared.node_map.Outcome.{Outcome}
 use Rattle.choosers.specs.SlotCalls.{toldOutcome}
 use Rattle.lines.specs.Replies.{withdrawn}
 use Rattle.lines.specs.Sessions.{replied}
-use Rattle.lines.proofs.sessions.outcome_line.Statement.{statement}
-use Rattle.lines.proofs.sessions.outcome_line.Tie as tie
+use Rattle.lines.proofs.calls.outcome_line.Statement.{statement}
+use Rattle.lines.proofs.calls.outcome_line.Tie as tie
 
 enum-told : tie.Need-enum-told
 enum-told c = search needs

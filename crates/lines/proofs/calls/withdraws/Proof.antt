@@ -1,9 +1,9 @@
--- `lines::sessions::withdraws` meets its contract.
+-- `lines::calls::withdraws` meets its contract.
 -- Assumes nothing.
 use borrow.Author.Needs.{needs}
 use Rattle.lines.proofs.LineLaws.{withdraw-none, withdraw-on}
-use Rattle.lines.proofs.sessions.withdraws.Statement.{statement}
-use Rattle.lines.proofs.sessions.withdraws.Tie as tie
+use Rattle.lines.proofs.calls.withdraws.Statement.{statement}
+use Rattle.lines.proofs.calls.withdraws.Tie as tie
 
 enum-told : tie.Need-enum-told
 enum-told c = search needs

@@ -1,10 +1,10 @@
--- `lines::sessions::plans` meets its contract.
+-- `lines::calls::plans` meets its contract.
 -- Assumes nothing.
 use native.Mathlib.Omega.{arith}
 use borrow.Author.Needs.{needs}
 use Rattle.lines.proofs.LineLaws.{plan-none, plan-on, plan-prints}
-use Rattle.lines.proofs.sessions.plans.Statement.{statement}
-use Rattle.lines.proofs.sessions.plans.Tie as tie
+use Rattle.lines.proofs.calls.plans.Statement.{statement}
+use Rattle.lines.proofs.calls.plans.Tie as tie
 
 enum-told : tie.Need-enum-told
 enum-told c = search needs

@@ -1,9 +1,9 @@
--- `lines::sessions::admits` meets its contract.
+-- `lines::calls::admits` meets its contract.
 -- Assumes nothing.
 use borrow.Author.Needs.{needs}
 use Rattle.lines.proofs.LineLaws.{admit-none, admit-on}
-use Rattle.lines.proofs.sessions.admits.Statement.{statement}
-use Rattle.lines.proofs.sessions.admits.Tie as tie
+use Rattle.lines.proofs.calls.admits.Statement.{statement}
+use Rattle.lines.proofs.calls.admits.Tie as tie
 
 enum-told : tie.Need-enum-told
 enum-told c = search needs

@@ -1,11 +1,11 @@
--- `lines::sessions::plan_output` meets its contract.
+-- `lines::calls::plan_output` meets its contract.
 -- Assumes nothing.
 use mathlib.Core.Path.{sym, ap}
 use borrow.Author.Needs.{needs}
 use Rattle.choosers.specs.declared.node_map.Outcome.{Outcome}
 use Rattle.lines.specs.InnerSessions.{outcomeOf}
-use Rattle.lines.proofs.sessions.plan_output.Statement.{statement}
-use Rattle.lines.proofs.sessions.plan_output.Tie as tie
+use Rattle.lines.proofs.calls.plan_output.Statement.{statement}
+use Rattle.lines.proofs.calls.plan_output.Tie as tie
 
 enum-told : tie.Need-enum-told
 enum-told c = search needs

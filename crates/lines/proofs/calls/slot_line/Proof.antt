@@ -1,4 +1,4 @@
--- `lines::sessions::slot_line` meets its contract.
+-- `lines::calls::slot_line` meets its contract.
 -- Assumes nothing.
 use mathlib.Core.Path.{sym, ap}
 use borrow.Author.Needs.{needs}
@@ -6,8 +6,8 @@ use Rattle.choosers.specs.declared.node_map.Slot.{Slot}
 use Rattle.choosers.specs.SlotCalls.{toldSlot}
 use Rattle.lines.specs.Replies.{joined}
 use Rattle.lines.specs.Sessions.{replied}
-use Rattle.lines.proofs.sessions.slot_line.Statement.{statement}
-use Rattle.lines.proofs.sessions.slot_line.Tie as tie
+use Rattle.lines.proofs.calls.slot_line.Statement.{statement}
+use Rattle.lines.proofs.calls.slot_line.Tie as tie
 
 enum-known-s : tie.Need-enum-known-s
 enum-known-s c = search needs

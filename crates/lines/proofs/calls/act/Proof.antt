@@ -1,10 +1,10 @@
--- `lines::sessions::act` meets its contract.
+-- `lines::calls::act` meets its contract.
 -- Assumes nothing.
 use mathlib.Core.Path.{_∙_, refl}
 use borrow.Author.Needs.{needs}
 use Rattle.lines.proofs.ActLaws.{act-open, act-admit, act-join, act-withdraw, act-plan, act-unknown}
-use Rattle.lines.proofs.sessions.act.Statement.{statement}
-use Rattle.lines.proofs.sessions.act.Tie as tie
+use Rattle.lines.proofs.calls.act.Statement.{statement}
+use Rattle.lines.proofs.calls.act.Tie as tie
 
 enum-known-command : tie.Need-enum-known-command
 enum-known-command c = search needs

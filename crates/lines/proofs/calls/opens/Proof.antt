@@ -1,9 +1,9 @@
--- `lines::sessions::opens` meets its contract.
+-- `lines::calls::opens` meets its contract.
 -- Assumes nothing.
 use borrow.Author.Needs.{needs}
 use Rattle.lines.proofs.LineLaws.{opens-made, opens-refused}
-use Rattle.lines.proofs.sessions.opens.Statement.{statement}
-use Rattle.lines.proofs.sessions.opens.Tie as tie
+use Rattle.lines.proofs.calls.opens.Statement.{statement}
+use Rattle.lines.proofs.calls.opens.Tie as tie
 
 open-requires : tie.Need-open-requires
 open-requires c κs = search needs
