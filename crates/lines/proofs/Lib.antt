@@ -11,4 +11,5 @@ pub mod ActLaws
 pub mod FeedLaws
 pub mod PartLaws
 pub mod RunLaws
+pub mod SessionExamples
 pub mod LedgerLaws

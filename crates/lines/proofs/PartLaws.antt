@@ -16,8 +16,8 @@ use Rattle.lists.proofs.Tests.{by-test, by-below, by-cond}
 use Rattle.lists.proofs.Tolds.{not-said, said-same}
 use Rattle.lists.proofs.Writing.{written-take}
 use Rattle.lines.specs.Sessions.{World}
-use Rattle.lines.specs.Streams.{Stand, stand, byte, fed, ended, Partly, partly, fedUpTo, roomFor, Count, count, AfterFeed, afterFeed, feedCall, endCall}
-use Rattle.lines.proofs.StreamLaws.{ended-none, ended-held, byte-line}
+use Rattle.lines.specs.Streams.{Stand, stand, byte, Partly, partly, fedUpTo, roomFor, Count, count, AfterFeed, afterFeed, feedCall, endCall}
+use Rattle.lines.proofs.StreamLaws.{fed, ended, ended-none, ended-held, byte-line}
 
 -- ---- feeding as far as there is room
 

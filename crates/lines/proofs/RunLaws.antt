@@ -8,9 +8,9 @@ use lib.ListN.{take}
 use Rattle.lists.proofs.Writing.{written-take}
 use Rattle.lines.specs.Lines.{linesOf}
 use Rattle.lines.specs.Sessions.{World, answers}
-use Rattle.lines.specs.Streams.{stand, fed, ended, putOut, whole}
-use Rattle.lines.specs.Runs.{Runs, finishes, feeds}
-use Rattle.lines.proofs.StreamLaws.{program}
+use Rattle.lines.specs.Streams.{stand}
+use Rattle.lines.specs.Runs.{whole, Runs, finishes, feeds}
+use Rattle.lines.proofs.StreamLaws.{fed, ended, putOut, program}
 use Rattle.lines.proofs.PartLaws.{feed-feeds, feed-text, finish-ends}
 
 run-puts : {w : World} {h : List ℕ} {parts : List (List ℕ)} {text : List ℕ} → Runs w h parts text → text ≡ putOut w h parts

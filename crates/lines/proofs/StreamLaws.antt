@@ -1,7 +1,7 @@
 -- The line program's theorem: whatever parts an input comes in, what is put out for it is the text of the answers to its lines.
 -- Assumes nothing.
 use mathlib.Core.Path.{_≡_, refl, sym, ap, _∙_}
-use mathlib.Core.Bool.{true, false}
+use mathlib.Core.Bool.{true, false, cond}
 use mathlib.Core.List.{List, [], _∷_, _++_, append-assoc, append-nil}
 use Prim.Native.Nat.{ℕ}
 use native.Mathlib.Omega.{arith}
@@ -12,8 +12,26 @@ use Rattle.lists.proofs.Tests.{by-test}
 use Rattle.lines.specs.Lines.{onto, linesOf}
 use Rattle.lines.specs.Replies.{textOf}
 use Rattle.lines.specs.Sessions.{World, hear, Heard, answers}
-use Rattle.lines.specs.Streams.{Stand, stand, byte, fed, ended, putOut, whole}
+use Rattle.lines.specs.Streams.{Stand, stand, byte}
+use Rattle.lines.specs.Runs.{whole}
 use Rattle.lines.proofs.HeldLaws.{take-cut, hear-first}
+
+-- ---- bytes fed with no regard to room, and parts of an input
+
+-- one byte after the other
+abbrev pub fed : Stand → List ℕ → Stand
+fed s [] = s
+fed s (b ∷ l) = fed (byte s b) l
+
+-- The end of the input: "a line feed, which the last input line may lack".
+unfoldable pub ended : Stand → Stand
+ended s = cond (eqb (length (s .held)) 0) s (byte s 10)
+
+-- What the program puts out for an input that comes in parts: the answers of each part, and at the end those of the line that is
+-- held. Between the parts the list is emptied.
+unfoldable pub putOut : World → List ℕ → List (List ℕ) → List ℕ
+putOut w h [] = ended (stand w h []) .text
+putOut w h (p ∷ ps) = fed (stand w h []) p .text ++ putOut (fed (stand w h []) p .world) (fed (stand w h []) p .held) ps
 
 -- ---- one byte
 

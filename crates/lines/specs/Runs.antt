@@ -9,6 +9,11 @@ use Rattle.lists.specs.Told.{says}
 use Rattle.lines.specs.Sessions.{World}
 use Rattle.lines.specs.Streams.{count, feedCall, endCall}
 
+-- the parts of an input, one after the other
+abbrev pub whole : List (List ℕ) → List ℕ
+whole [] = []
+whole (p ∷ ps) = p ++ whole ps
+
 -- From a world and what is held of a line: the parts of the pieces that the calls take, and all that they put out. A call is lent
 -- the list with the held bytes, and any list for what it puts out; it is not refused.
 pub data Runs : World → List ℕ → List (List ℕ) → List ℕ → Type 0 where

@@ -35,17 +35,6 @@ byte s b =
     (stand (hear (s .world) (s .held) .world) [] (s .text ++ textOf (hear (s .world) (s .held) .reply)))
     (stand (s .world) (take heldMost (s .held ++ (b ∷ []))) (s .text))
 
--- one byte after the other
-abbrev pub fed : Stand → List ℕ → Stand
-fed s [] = s
-fed s (b ∷ l) = fed (byte s b) l
-
--- The end of the input: "a line feed, which the last input line may lack".
-unfoldable pub ended : Stand → Stand
-ended s = cond (eqb (length (s .held)) 0) s (byte s 10)
-
--- ---- what a call puts into a list that is lent for it
-
 -- the longest answer: 33 bytes for each place of a plan, or 32 for a line
 abbrev pub roomFor : List ℕ → ℕ
 roomFor ls = 33 * length ls + 32
@@ -115,16 +104,3 @@ endCall w line m out = cond (eqb m 0) (afterFeed (says (count 0 0)) w [] 0 out) 
 abbrev pub Spared : Feeding → List ℕ → List ℕ → List ℕ → List ℕ → Type 0
 Spared (feeding.Fed t p) line line′ scratch scratch′ = (length line′ ≡ length line) × (length scratch′ ≡ length scratch)
 Spared (feeding.Refused c) line line′ scratch scratch′ = (line′ ≡ line) × (scratch′ ≡ scratch)
-
--- ---- a whole input
-
--- the parts of an input, one after the other
-abbrev pub whole : List (List ℕ) → List ℕ
-whole [] = []
-whole (p ∷ ps) = p ++ whole ps
-
--- What the program puts out for an input that comes in parts: the answers of each part, and at the end those of the line that is
--- held. Between the parts the list is emptied.
-unfoldable pub putOut : World → List ℕ → List (List ℕ) → List ℕ
-putOut w h [] = ended (stand w h []) .text
-putOut w h (p ∷ ps) = fed (stand w h []) p .text ++ putOut (fed (stand w h []) p .world) (fed (stand w h []) p .held) ps
