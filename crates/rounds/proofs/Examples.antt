@@ -17,12 +17,16 @@ use Rattle.orders.specs.ReservoirCalls as Reservoir
 use Rattle.choosers.specs.Choosers.{g, top, S, Q}
 use Rattle.choosers.specs.Slots.{active, deleted, actives, vacant, holder, stateOf, slotAmong, slotOf}
 use Rattle.choosers.specs.SlotCalls as Slots
+use Rattle.orders.specs.declared.consistent_reservoir.Exchange.the-variants as exchange
+use Rattle.choosers.specs.declared.node_map.Slot.the-variants as slot
+use Rattle.choosers.specs.declared.node_map.Outcome.the-variants as outcome
 use Rattle.rounds.specs.declared.round.Round.{Round}
 use Rattle.rounds.specs.Rounds.{State, state, fitting, openCall, afterOpen, admitCall, joinCall, withdrawCall}
 use Rattle.rounds.specs.Plans.{terminalOf, planCall, afterPlan, sheet}
 use Rattle.rounds.specs.Ledgers.{Call, admit, join, withdraw, ledger, firstLedger, freeSlot, accept, planFrom, ledgerPlan, fedAll}
 use Rattle.rounds.specs.Histories.{call, afterAll, allSaid, Opens}
 use Rattle.rounds.specs.Demand3.{Reached}
+use Rattle.rounds.specs.CallsMade.{AllMade, made-none, made-next, admit-left, join-left, join-returned, withdraw-returned}
 
 abbrev key : ℕ
 key = 0x0123_4567_89AB_CDEF
@@ -54,6 +58,20 @@ said =
 pub all-said : allSaid begin calls ≡ said
 unfolding allSaid call admitCall joinCall withdrawCall fitting Reservoir.fitting Reservoir.sample Reservoir.admitCall Reservoir.exchange Reservoir.exchangeBy Slots.fitting Slots.addCall Slots.removeCall every last incoming notBelow standing written grown upToZeros wider below zeroTop topBits layer start rounds round roundFunction nextKey over rotateRight vacant deleted active
 all-said = refl
+
+-- The first four of them made in both ways: the first join and the admit on the lent record, the others by value. The admit goes to
+-- layer 1.
+abbrev wide : State
+wide = state (record { «master_key» = key; k = 2; n = 7; «j_max» = 1; used = 7; total = 2 }) (9 ∷ 13 ∷ 0 ∷ 7 ∷ 12 ∷ 8 ∷ 6 ∷ 77 ∷ []) (1 ∷ 1 ∷ 7 ∷ [])
+
+pub made-both : AllMade begin (join ∷ join ∷ admit ∷ withdraw 5 ∷ []) (says (0 ∷ []) ∷ says (1 ∷ []) ∷ says (6 ∷ 1 ∷ []) ∷ refusal 10 ∷ []) wide
+unfolding admitCall joinCall withdrawCall fitting Reservoir.fitting Reservoir.sample Reservoir.admitCall Reservoir.exchange Reservoir.exchangeBy Slots.fitting Slots.addCall Slots.removeCall every last incoming notBelow standing written grown upToZeros wider below zeroTop topBits layer start rounds round roundFunction nextKey over rotateRight vacant deleted active
+made-both =
+    made-next (join-left (slot.Number 0) (record-of 3 0 1) (1 ∷ 8 ∷ 7 ∷ []) refl)
+    (made-next (join-returned (record { round = record-of 3 0 2; slot = slot.Number 1 }) (1 ∷ 1 ∷ 7 ∷ []) refl)
+    (made-next (admit-left (exchange.InOut 6 1) (wide .round) (wide .list) refl)
+    (made-next (withdraw-returned 5 (record { round = wide .round; outcome = outcome.Refused 10 }) (wide .table) refl)
+    (made-none wide))))
 
 -- the round after them
 abbrev end : State

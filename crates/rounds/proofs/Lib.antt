@@ -3,6 +3,8 @@ pub mod StepLaws
 pub mod LedgerLaws
 pub mod PlanLaws
 pub mod Demand3Laws
+pub mod MadeLaws
+pub mod UnchangedLaws
 pub mod MoveLaws
 pub mod RefusalLaws
 pub mod ReadLaws
@@ -12,3 +14,8 @@ pub mod DealLaws
 pub mod PlanCodeLaws
 pub mod ReplayTurns
 pub mod Examples
+pub mod LocalSteps
+pub mod PlaceSteps
+pub mod CalleeSteps
+pub mod LentSteps
+pub mod LendingSteps

@@ -3,6 +3,7 @@ pub mod Plans
 pub mod Ledgers
 pub mod Histories
 pub mod Demand3
+pub mod CallsMade
 pub mod Replays
 pub mod InnerRounds
 pub mod InnerReplays

@@ -5,8 +5,8 @@ use Rattle.rounds.proofs.ReplayTurns.{step-admit, step-join, step-withd
 use Rattle.rounds.proofs.replays.step.Statement.{statement}
 use Rattle.rounds.proofs.replays.step.Tie as tie
 
-admitted-requires : tie.Need-admitted-requires
-admitted-requires c κs = search needs
+admit-lent-requires : tie.Need-admit-lent-requires
+admit-lent-requires c κs = search needs
 
 of-exchange-requires : tie.Need-of-exchange-requires
 of-exchange-requires c κs = search needs
@@ -20,10 +20,10 @@ same-length-2 c = search needs
 returns : tie.Need-returns
 returns c =
     let call = c .before .before .before .before in
-    step-admit _ _ _ _ _ (call .admitted .result) (call .before .before .before .if1 .taken) (call .admitted .ensures) (c .of-exchange .ensures)
+    step-admit _ _ _ _ _ (call .admit-lent .result) (call .before .before .before .if1 .taken) (call .admit-lent .ensures) (c .of-exchange .ensures)
 
-joined-requires : tie.Need-joined-requires
-joined-requires c κs = search needs
+join-lent-requires : tie.Need-join-lent-requires
+join-lent-requires c κs = search needs
 
 of-slot-requires : tie.Need-of-slot-requires
 of-slot-requires c κs = search needs
@@ -38,13 +38,13 @@ returns-2 : tie.Need-returns-2
 returns-2 c =
     let call = c .before .before .before .before in
     let test = call .before .before .before in
-    step-join _ _ _ _ _ (call .joined .result) (test .before .if1 .left) (test .if2 .taken) (call .joined .ensures) (c .of-slot .ensures)
+    step-join _ _ _ _ _ (call .join-lent .result) (test .before .if1 .left) (test .if2 .taken) (call .join-lent .ensures) (c .of-slot .ensures)
 
-cast-withdrawn : tie.Need-cast-withdrawn
-cast-withdrawn c = search needs
+cast-withdraw-lent : tie.Need-cast-withdraw-lent
+cast-withdraw-lent c = search needs
 
-withdrawn-requires : tie.Need-withdrawn-requires
-withdrawn-requires c κs = search needs
+withdraw-lent-requires : tie.Need-withdraw-lent-requires
+withdraw-lent-requires c κs = search needs
 
 of-outcome-requires : tie.Need-of-outcome-requires
 of-outcome-requires c κs = search needs
@@ -59,24 +59,24 @@ returns-3 : tie.Need-returns-3
 returns-3 c =
     let call = c .before .before .before .before in
     let test = call .before .before .before in
-    step-withdraw _ _ _ _ _ (call .withdrawn .result) (test .before .if1 .left) (test .if2 .left) (call .withdrawn .ensures) (c .of-outcome .ensures)
+    step-withdraw _ _ _ _ _ (call .withdraw-lent .result) (test .before .if1 .left) (test .if2 .left) (call .withdraw-lent .ensures) (c .of-outcome .ensures)
 
 pub step-spec : {M : Type 1} → statement M
 step-spec =
     tie.close
     (tie.spec
-    admitted-requires
+    admit-lent-requires
     of-exchange-requires
     same-length
     same-length-2
     returns
-    joined-requires
+    join-lent-requires
     of-slot-requires
     same-length-3
     same-length-4
     returns-2
-    cast-withdrawn
-    withdrawn-requires
+    cast-withdraw-lent
+    withdraw-lent-requires
     of-outcome-requires
     same-length-5
     same-length-6
