@@ -66,15 +66,18 @@ same-call told back is a x y s t p q =
     let e : after (told y) t ≡ after (told x) s = q ∙ sym p in
     (sym (is y) ∙ ap (λ (b : After _). back (b .told)) e ∙ is x, ap (λ (b : After _). b .state) e)
 
-pub same-admit : (s : State) (a : Admission) (l : List ℕ) (e : Exchange) (r : Round) (l′ : List ℕ) → admission a l (s .table) ≡ admitCall s → after (toldExchange e) (state r l′ (s .table)) ≡ admitCall s
+pub same-admit : (s : State) (a : Admission) (l : List ℕ) (e : Exchange) (r : Round) (l′ : List ℕ)
+    → admission a l (s .table) ≡ admitCall s → after (toldExchange e) (state r l′ (s .table)) ≡ admitCall s
     → (e ≡ a .exchange) × (state r l′ (s .table) ≡ state (a .round) l (s .table))
 same-admit s a l e r l′ = same-call toldExchange backExchange back-exchange (admitCall s) (a .exchange) e (state (a .round) l (s .table)) (state r l′ (s .table))
 
-pub same-join : (s : State) (a : Joining) (t : List ℕ) (y : Slot) (r : Round) (t′ : List ℕ) → joining a (s .list) t ≡ joinCall s → after (toldSlot y) (state r (s .list) t′) ≡ joinCall s
+pub same-join : (s : State) (a : Joining) (t : List ℕ) (y : Slot) (r : Round) (t′ : List ℕ)
+    → joining a (s .list) t ≡ joinCall s → after (toldSlot y) (state r (s .list) t′) ≡ joinCall s
     → (y ≡ a .slot) × (state r (s .list) t′ ≡ state (a .round) (s .list) t)
 same-join s a t y r t′ = same-call toldSlot backSlot back-slot (joinCall s) (a .slot) y (state (a .round) (s .list) t) (state r (s .list) t′)
 
-pub same-withdraw : (s : State) (x : ℕ) (a : Withdrawal) (t : List ℕ) (o : Outcome) (r : Round) (t′ : List ℕ) → withdrawal a (s .list) t ≡ withdrawCall s x → after (toldOutcome o) (state r (s .list) t′) ≡ withdrawCall s x
+pub same-withdraw : (s : State) (x : ℕ) (a : Withdrawal) (t : List ℕ) (o : Outcome) (r : Round) (t′ : List ℕ)
+    → withdrawal a (s .list) t ≡ withdrawCall s x → after (toldOutcome o) (state r (s .list) t′) ≡ withdrawCall s x
     → (o ≡ a .outcome) × (state r (s .list) t′ ≡ state (a .round) (s .list) t)
 same-withdraw s x a t o r t′ = same-call toldOutcome backOutcome back-outcome (withdrawCall s x) (a .outcome) o (state (a .round) (s .list) t) (state r (s .list) t′)
 
@@ -99,7 +102,8 @@ all-made (made-next {s = s} {x = x} {xs = xs} m ms) =
     ((λ i. e i .told ∷ (rest .0 ∙ ap (λ (a : After (List ℕ)). allSaid (a .state) xs) e) i), rest .1 ∙ ap (λ (a : After (List ℕ)). afterAll (a .state) xs) e)
 
 -- demand 3, by the promises of the calls alone
-pub demand-3-made : (key k n : ℕ) (s : State) → Opens key k n s → (calls : List Call) (ws : List (Told (List ℕ))) (t : State) → AllMade s calls ws t → MadeFollows key k n (length (s .table)) calls ws t
+pub demand-3-made : (key k n : ℕ) (s : State) → Opens key k n s → (calls : List Call) (ws : List (Told (List ℕ))) (t : State) → AllMade s calls ws t
+    → MadeFollows key k n (length (s .table)) calls ws t
 demand-3-made key k n s o calls ws t made =
     let f : Follows key k n s calls = demand-3 key k n s o calls in
     let m = all-made made in
