@@ -82,8 +82,10 @@ fn main() {
         "{:<44} {:>8} {:>8} {:>7}",
         "nanoseconds each", "proved", "Rust", "ratio"
     );
-    if std::env::args().nth(1).as_deref() == Some("lines") {
-        return lines::all();
+    match std::env::args().nth(1).as_deref() {
+        Some("lines") => return lines::all(),
+        Some("rounds") => return rounds::all(),
+        _ => {}
     }
     for layer in [0, 1, 2, 3, 5, 8, 11] {
         let n = 1u32 << (2 * layer + 2);

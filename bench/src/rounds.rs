@@ -119,8 +119,41 @@ fn changing(k: u32) {
     );
 }
 
+/// The same in a replay, where each call is made on the lent record: 230 joins, then a join and a withdraw by turns. The open, the
+/// plan and the memory are in the figure.
+fn replaying(k: u32) {
+    const ACTIVE: u32 = 230;
+    let turns = 10_000_000 / u64::from(k);
+    let mut calls = vec![1; ACTIVE as usize];
+    (0..turns).for_each(|_| calls.extend([1, 1 << 32 | u64::from(ACTIVE)]));
+    let places = k as usize;
+    let ours = || {
+        let (mut list, mut table) = (vec![0; 8 * places + 64], vec![0; 256]);
+        let mut answers = vec![0; 4 * calls.len() + 4];
+        let (mut locations, mut terminals) = (vec![0; places], vec![0; places]);
+        let mut scratch = vec![0; 256];
+        proved::round_replay(
+            (KEY, k, N),
+            &calls,
+            &mut list,
+            &mut table,
+            &mut answers,
+            &mut locations,
+            &mut terminals,
+            &mut scratch,
+        )
+        .unwrap();
+        mixed(answers.iter().copied())
+    };
+    report_alone(
+        &format!("round of {k}, a call of a replay"),
+        measure_alone(calls.len() as u64, ours),
+    );
+}
+
 pub fn all() {
     PLANS.into_iter().for_each(planning);
     [100, 1000].into_iter().for_each(streaming);
     [100, 1000].into_iter().for_each(changing);
+    [100, 1000].into_iter().for_each(replaying);
 }
