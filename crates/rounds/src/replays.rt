@@ -7,17 +7,15 @@ ghost use Rattle.lists.specs.Told.{says, mapTold};
 ghost use Rattle.lists.specs.Lists.{every, written};
 ghost use Rattle.orders.specs.ReservoirCalls.{toldExchange};
 ghost use Rattle.choosers.specs.SlotCalls.{toldSlot};
-ghost use Rattle.rounds.specs.Rounds.{state, admission, admitCall, joining, joinCall, withdrawal, withdrawCall};
+ghost use Rattle.rounds.specs.Rounds.{state};
 ghost use Rattle.rounds.specs.Plans.{toldOutcome, Spared};
 ghost use Rattle.rounds.specs.Histories.{exchanged, slotSaid, nothingSaid, afterAll, allSaid};
 ghost use Rattle.rounds.specs.Replays.{known, callOf, coded, codedAll, afterReplay, runOf, replayCall, Replayed};
 ghost use Rattle.rounds.specs.InnerReplays.{wordsOf, placedAt, stepped, stepOf};
+use crate::lending;
 use crate::round;
-use crate::round::Admission;
-use crate::round::Joining;
 use crate::round::Opened;
 use crate::round::Round;
-use crate::round::Withdrawal;
 use choosers::node_map::Outcome;
 use choosers::node_map::Slot;
 use orders::consistent_reservoir::Exchange;
@@ -86,38 +84,12 @@ fn of_outcome(o: Outcome) -> Answer
     }
 }
 
-// ---- the calls on the lent record, by value again: the record is lent for the call and comes back
-
-fn admit_lent(r: Round, list: &mut [u32], table: &[u8]) -> Admission
-    ensures { λ a. ⌜ admission a (now (list .exit)) (now (table .entry)) ≡ admitCall (state r (now (list .entry)) (now (table .entry))) ⌝ }
-{
-    let mut s = r;
-    let exchange = s.admit(list, table);
-    Admission { round: s, exchange }
-}
-
-fn join_lent(r: Round, list: &[u32], table: &mut [u8]) -> Joining
-    ensures { λ a. ⌜ joining a (now (list .entry)) (now (table .exit)) ≡ joinCall (state r (now (list .entry)) (now (table .entry))) ⌝ }
-{
-    let mut s = r;
-    let slot = s.join(list, table);
-    Joining { round: s, slot }
-}
-
-fn withdraw_lent(r: Round, list: &[u32], table: &mut [u8], slot: u32) -> Withdrawal
-    ensures { λ a. ⌜ withdrawal a (now (list .entry)) (now (table .exit)) ≡ withdrawCall (state r (now (list .entry)) (now (table .entry))) slot ⌝ }
-{
-    let mut s = r;
-    let outcome = s.withdraw(list, table, slot);
-    Withdrawal { round: s, outcome }
-}
-
 // One call, by its number.
 fn step(code: u64, r: Round, list: &mut [u32], table: &mut [u8]) -> Called
     ensures { λ s. ⌜ stepped s (now (list .exit)) (now (table .exit)) ≡ stepOf code (state r (now (list .entry)) (now (table .entry))) ⌝ }
 {
     if code == 0 {
-        let a = admit_lent(r, list, table);
+        let a = lending::admit_lent(r, list, table);
         let after = a.round;
         let exchange = a.exchange;
         return Called {
@@ -126,7 +98,7 @@ fn step(code: u64, r: Round, list: &mut [u32], table: &mut [u8]) -> Called
         };
     }
     if code == 1 {
-        let b = join_lent(r, list, table);
+        let b = lending::join_lent(r, list, table);
         let after = b.round;
         let slot = b.slot;
         return Called {
@@ -134,7 +106,7 @@ fn step(code: u64, r: Round, list: &mut [u32], table: &mut [u8]) -> Called
             answer: of_slot(slot),
         };
     }
-    let d = withdraw_lent(r, list, table, (code % 0x1_0000_0000) as u32);
+    let d = lending::withdraw_lent(r, list, table, (code % 0x1_0000_0000) as u32);
     let after = d.round;
     let outcome = d.outcome;
     Called {

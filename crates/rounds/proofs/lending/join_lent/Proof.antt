@@ -1,4 +1,4 @@
--- `rounds::replays::join_lent` meets its contract: a walk of its MIR, by hand. The record s is lent to `join` for a lifetime that is made
+-- `rounds::lending::join_lent` meets its contract: a walk of its MIR, by hand. The record s is lent to `join` for a lifetime that is made
 -- for the call, and comes back at what `join` left; the list and the table are given to it for good. Of `join` the proof knows that
 -- it meets its contract.
 -- Assumes nothing.
@@ -52,10 +52,10 @@ use Rattle.rounds.proofs.round.Round.join as g
 use Rattle.rounds.proofs.round.Round.join.Symbol as g-def
 use Rattle.rounds.proofs.round.Round.join.Symbol.{name as #g}
 use Rattle.rounds.proofs.round.Round.join.Met as g-thm
-use Rattle.rounds.proofs.replays.join_lent.Key.{name as #f}
-use Rattle.rounds.proofs.replays.join_lent as f
-use Rattle.rounds.proofs.replays.join_lent.Statement as stated
-use Rattle.rounds.proofs.replays.join_lent.Code as code
+use Rattle.rounds.proofs.lending.join_lent.Key.{name as #f}
+use Rattle.rounds.proofs.lending.join_lent as f
+use Rattle.rounds.proofs.lending.join_lent.Statement as stated
+use Rattle.rounds.proofs.lending.join_lent.Code as code
 
 abbrev stayed : Stays (f.signature .params) (f.ended .kept)
 stayed = lefts (f.signature .params) (f.ended .kept)
