@@ -22,7 +22,7 @@ use Rattle.rounds.specs.Rounds.{State, state, After, after, admission, a
 use Rattle.rounds.specs.Plans.{planCall, shownPlan}
 use Rattle.rounds.specs.Ledgers.{Call, firstLedger, ledgerPlan, fedAll}
 use Rattle.rounds.specs.Histories.{exchanged, slotSaid, nothingSaid, valued, call, afterAll, allSaid, Opens}
-use Rattle.rounds.specs.Demand3.{Agree, Follows}
+use Rattle.rounds.specs.Demand3.{Agree, Follows, Reached}
 use Rattle.rounds.specs.CallsMade.{Made, admit-returned, join-returned, withdraw-returned, admit-left, join-left, withdraw-left, AllMade, made-none, made-next, MadeFollows}
 use Rattle.rounds.proofs.Demand3Laws.{demand-3}
 
@@ -115,3 +115,7 @@ demand-3-made key k n s o calls ws t made =
           ∙ f .planned ls ts places enough
           ∙ ap (λ (z : List (Told (List ℕ))). ledgerPlan (fedAll (firstLedger key k n) calls z)) (sym (m .0));
     }
+
+-- the round after them is one reached, so that all that is said of rounds reached is said of it
+pub made-reached : (key k n : ℕ) (s : State) → Opens key k n s → (calls : List Call) (ws : List (Told (List ℕ))) (t : State) → AllMade s calls ws t → Reached t
+made-reached key k n s o calls ws t made = record { key = key; k = k; n = n; start = s; opens = o; calls = calls; is = sym (all-made made .1) }
