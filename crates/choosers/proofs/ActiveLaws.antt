@@ -7,18 +7,18 @@ use mathlib.Core.List.{List}
 use Prim.Native.Nat.{ℕ, suc, _≤_, _<_}
 use native.Mathlib.Omega.{arith}
 use lib.ListN.{length}
-use Rattle.lists.specs.Lists.{keep, occ, other, without, zeroTo}
+use Rattle.lists.specs.Lists.{keep, occurrences, other, without, zeroTo}
 use Rattle.lists.proofs.Tests.{by-same}
 use Rattle.lists.proofs.Keeping.{keep-keep}
-use Rattle.lists.proofs.Members.{occ-keep-yes, keep-passes, keep-agree}
+use Rattle.lists.proofs.Members.{occurrences-keep-yes, keep-passes, keep-agree}
 use Rattle.lists.proofs.Without.{other-no, other-yes, without-length}
-use Rattle.lists.proofs.Ranges.{occ-from, keep-range}
+use Rattle.lists.proofs.Ranges.{occurrences-from, keep-range}
 use Rattle.choosers.specs.Slots.{active, actives}
 use Rattle.choosers.proofs.TableLaws.{active-over, active→}
 
-pub actives-once : (t : List ℕ) (c x : ℕ) → active t c x ≡ true → occ x (actives t c) ≡ 1
+pub actives-once : (t : List ℕ) (c x : ℕ) → active t c x ≡ true → occurrences x (actives t c) ≡ 1
 unfolding actives
-actives-once t c x y = occ-keep-yes (active t c) x (zeroTo c) y ∙ occ-from x 0 c (omega arith) (omega (arith, active→ t c x y .0))
+actives-once t c x y = occurrences-keep-yes (active t c) x (zeroTo c) y ∙ occurrences-from x 0 c (omega arith) (omega (arith, active→ t c x y .0))
 
 -- with the table u and the count d, x is not active, and every other slot is as with t and c
 pub record Out (t : List ℕ) (c : ℕ) (x : ℕ) (u : List ℕ) (d : ℕ) : Type 0 where
@@ -27,7 +27,7 @@ pub record Out (t : List ℕ) (c : ℕ) (x : ℕ) (u : List ℕ) (d : ℕ) : Typ
   pub rest : (y : ℕ) → y ≢ x → active u d y ≡ active t c y
 
 module _ {t : List ℕ} {c x : ℕ} {u : List ℕ} {d : ℕ} (o : Out t c x u d) where
-  agrees : (y : ℕ) → 0 < occ y (keep (active t c) (zeroTo c)) → other x y ≡ active u d y
+  agrees : (y : ℕ) → 0 < occurrences y (keep (active t c) (zeroTo c)) → other x y ≡ active u d y
   agrees y h =
       by-same y x
       (λ e. other-no x y e ∙ sym (ap (active u d) e ∙ o .gone))

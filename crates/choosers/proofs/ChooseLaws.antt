@@ -11,7 +11,7 @@ use lib.Seq.{getD-set-same, getD-set-other, drop-cons, drop-drop, drop-set-lt, a
 use Rattle.lists.specs.Lists.{written}
 use Rattle.lists.proofs.Tests.{by-same}
 use Rattle.lists.proofs.Writing.{set-holds}
-use Rattle.choosers.specs.Choosers.{g, top, S}
+use Rattle.choosers.specs.Choosers.{g, largestG, S}
 use Rattle.choosers.specs.InnerChoosers.{Owns, OwnOr, SameFrom}
 use Rattle.choosers.proofs.SampleLaws.{g-top, g-same, top-lt, top-ge, length-S}
 use Rattle.choosers.proofs.LoweringLaws.{S-open}
@@ -19,12 +19,12 @@ use Rattle.choosers.proofs.LoweringLaws.{S-open}
 module _ (s : ℕ) where
   -- ---- a turn of the passes over the places
 
-  pub top-none : (n : ℕ) → 0 ≡ top s 0 n
-  unfolding top
+  pub top-none : (n : ℕ) → 0 ≡ largestG s 0 n
+  unfolding largestG
   top-none n = refl
 
-  pub top-more : (i n high r x : ℕ) → high ≡ top s i n → x ≡ g s i n → r ≡ max high x → r ≡ top s (i + 1) n
-  unfolding top
+  pub top-more : (i n high r x : ℕ) → high ≡ largestG s i n → x ≡ g s i n → r ≡ max high x → r ≡ largestG s (i + 1) n
+  unfolding largestG
   top-more i n high r x h e q = rw (add-one, q, h, e)
 
   pub owns-more : (l : List ℕ) (i n x : ℕ) → i < length l → Owns s l i n → x ≡ g s i n → Owns s (set l i x) (i + 1) n
@@ -41,11 +41,11 @@ module _ (s : ℕ) where
     pub bound : ℕ
     pub few : i ≤ bound
     pub small : bound ≤ n
-    pub largest : high ≡ top s i bound
+    pub largest : high ≡ largestG s i bound
     pub owns : Owns s now i bound
     pub whole : written (S s k n) before ≡ S s i bound ++ drop i now
 
-  pub choosing-first : (k n : ℕ) (now : List ℕ) (high : ℕ) → k ≤ n → high ≡ top s k n → Owns s now k n → Choosing k n now now high k
+  pub choosing-first : (k n : ℕ) (now : List ℕ) (high : ℕ) → k ≤ n → high ≡ largestG s k n → Owns s now k n → Choosing k n now now high k
   unfolding written
   choosing-first k n now high h e o = record {
     bound = n;
@@ -81,7 +81,7 @@ module _ (s : ℕ) where
         inr (e ∙ sym (g-same s i high (c .bound) (omega (arith, high-ge)) (omega (arith, c .largest, c .few, top-lt s (suc j) (c .bound) (c .few) (omega (arith, c .few)))) (omega (arith, q)))))
 
     -- the places below j hold the own values below `high`, place j holds it
-    module _ (next : List ℕ) (r : ℕ) (long : j < length next) (e : r ≡ top s j high) (o : Owns s next j high) (q : SameFrom j now next) where
+    module _ (next : List ℕ) (r : ℕ) (long : j < length next) (e : r ≡ largestG s j high) (o : Owns s next j high) (q : SameFrom j now next) where
       drop-next : drop j (set next j high) ≡ high ∷ drop (suc j) now
       drop-next =
           drop-cons (set next j high) j 0 (rw (length-set next j high) long)

@@ -16,11 +16,11 @@ use lib.Seq.{length-take-le}
 use Rattle.lists.specs.Told.{says}
 use Rattle.lists.specs.Lists.{last, lacked, written}
 use Rattle.lists.proofs.Tests.{by-cond, by-below, same-no}
-use Rattle.lists.proofs.Members.{occ-append}
+use Rattle.lists.proofs.Members.{occurrences-append}
 use Rattle.lists.proofs.Inserting.{lacked-insertAt}
 use Rattle.lists.proofs.Writing.{written-take, written-at}
 use Rattle.choosers.specs.declared.choose_k.ConsistentChooseKHasher.{ConsistentChooseKHasher}
-use Rattle.choosers.specs.Choosers.{top, S, Moved, moved, grow, shrink}
+use Rattle.choosers.specs.Choosers.{largestG, S, Moved, moved, grow, shrink}
 use Rattle.choosers.specs.ChooserCalls.{samplesOf, chooserOf, fitting, After, after, refused, tested, grownBy, growCall, nextCall, countsFrom, shrinkCall, Chooses, Consistent, ConsistentNext}
 use Rattle.choosers.proofs.SampleLaws.{length-S}
 use Rattle.choosers.proofs.LoweringLaws.{place, place-le, grow-gives, shrink-gives, last-S, S-open}
@@ -134,7 +134,7 @@ module _ (c : ConsistentChooseKHasher) (l : List ℕ) where
   -- S(k, n) with its last b: b goes out, and S(k, b) has the k-th number of Q(b) instead
   module _ (p : Parts c l) (j : ℕ) (size : c .k ≡ suc j) (not-first : countsFrom 0 (samplesOf c l) ≡ false) (h : Chooses c l) where
     b : ℕ
-    b = top (c .state) (suc j) (c .n)
+    b = largestG (c .state) (suc j) (c .n)
 
     samples-S : samplesOf c l ≡ S (c .state) (suc j) (c .n)
     samples-S = h ∙ ap (λ (k : ℕ). S (c .state) k (c .n)) size
@@ -168,8 +168,8 @@ module _ (c : ConsistentChooseKHasher) (l : List ℕ) where
     shrunk-lacked =
         rw (samples-S, S-open (c .state) j (c .n), S-insert (c .state) j b high)
         (lacked-insertAt (S (c .state) j b) (S (c .state) j b ++ (b ∷ [])) (place (c .state) j b) (new (c .state) j b)
-        (λ v q. omega (arith, occ-append v (S (c .state) j b) (b ∷ [])))
-        (occ-append (new (c .state) j b) (S (c .state) j b) (b ∷ [])
+        (λ v q. omega (arith, occurrences-append v (S (c .state) j b) (b ∷ [])))
+        (occurrences-append (new (c .state) j b) (S (c .state) j b) (b ∷ [])
         ∙ rw (same-no b (new (c .state) j b) (λ q. omega (arith, q, new-lt (c .state) j b high))) (omega (arith, new-fresh (c .state) j b high))))
 
   shrunk-keeps : Parts c l → (k : ℕ) → c .k ≡ k → k ≢ 0 → countsFrom 0 (samplesOf c l) ≡ false → (m : Moved) → m ≡ shrink (c .state) (samplesOf c l)

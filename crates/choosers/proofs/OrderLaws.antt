@@ -8,14 +8,14 @@ use native.Mathlib.Nat.{zero-max}
 use native.Mathlib.Omega.{arith}
 use native.Mathlib.Decide.{le-ind}
 use lib.ListN.{length, getD}
-use Rattle.lists.specs.Lists.{zeroTo, keep, below, occ}
+use Rattle.lists.specs.Lists.{zeroTo, keep, below, occurrences}
 use Rattle.lists.proofs.Tests.{by-below}
 use Rattle.lists.proofs.Keeping.{all-keep}
 use Rattle.lists.proofs.Counting.{Order, order-once, order-none, order-all}
 use Rattle.lists.proofs.Permutations.{from-length}
 use Rattle.lists.proofs.Inserting.{insertAt, insertAt-snoc, insertAt-end, keep-insertAt, order-insert}
 use Rattle.lists.proofs.Listing.{listing-snoc, listing-at}
-use Rattle.choosers.specs.Choosers.{g, top, Q}
+use Rattle.choosers.specs.Choosers.{g, largestG, Q}
 use Rattle.choosers.proofs.SampleLaws.{g-lt, g-ge, g-same, top-below}
 use Rattle.choosers.proofs.PlaceLaws.{new, new-end, new-mid, new-lt, new-same, Q-new}
 
@@ -30,7 +30,7 @@ record Early (s k n : ℕ) : Type 0 where
   alike : firsts s (suc k) (suc n) ≡ firsts s (suc k) n
 
 record Late (s k n : ℕ) : Type 0 where
-  full : top s (suc k) (suc n) ≡ n
+  full : largestG s (suc k) (suc n) ≡ n
   spot : ℕ
   within : spot ≤ k
   put : firsts s (suc k) (suc n) ≡ insertAt (firsts s k n) spot n
@@ -49,7 +49,7 @@ module _ (s : ℕ) where
   Q-firsts n = Q-new s n
 
   stage-zero : (n : ℕ) → Early s 0 n ⊎ Late s 0 n
-  unfolding firsts new insertAt top
+  unfolding firsts new insertAt largestG
   stage-zero n =
       by-below (g s 0 (suc n)) n
       (λ p. inl (record {
@@ -60,7 +60,7 @@ module _ (s : ℕ) where
       inr (record { full = rw (zero-max, e); spot = 0; within = omega arith; put = rw e }))
 
   stage-early : (k n : ℕ) → suc k ≤ n → Early s k n → Early s (suc k) n ⊎ Late s (suc k) n
-  unfolding top
+  unfolding largestG
   stage-early k n h a =
       by-below (g s (suc k) (suc n)) n
       (λ p. let low : (i : ℕ) → i < suc (suc k) → g s i (suc n) < n = (λ i q. by-below i (suc k) (λ r. a .low i r) (λ r. let e : i ≡ suc k = omega arith in rw e p)) in
@@ -71,7 +71,7 @@ module _ (s : ℕ) where
             (ap (λ x. firsts s (suc k) n ++ (x ∷ [])) (sym (new-same s (suc k) n (suc n) (omega (arith, g-ge s (suc k) (suc n))) (omega arith) (λ i q. low i (omega arith)))));
       }))
       (λ p. let e : g s (suc k) (suc n) ≡ n = omega (arith, g-lt s (suc k) (suc n) (omega arith)) in
-      let t : top s (suc k) (suc n) < n = top-below s (suc k) (suc n) n (omega arith) (a .low) in
+      let t : largestG s (suc k) (suc n) < n = top-below s (suc k) (suc n) n (omega arith) (a .low) in
       inr (record {
         full = omega arith;
         spot = suc k;
@@ -82,7 +82,7 @@ module _ (s : ℕ) where
       }))
 
   stage-late : (k n : ℕ) → suc k ≤ n → Late s k n → Early s (suc k) n ⊎ Late s (suc k) n
-  unfolding top
+  unfolding largestG
   stage-late k n h a =
       let b : g s (suc k) (suc n) < suc n = g-lt s (suc k) (suc n) (omega arith) in
       inr (record {
@@ -129,10 +129,10 @@ module _ (s : ℕ) where
   Q-order zero = order-none-yet
   Q-order (suc n) = order-step n (Q-order n) (Q-step n)
 
-  pub Q-once : (n v : ℕ) → v < n → occ v (Q s n) ≡ 1
+  pub Q-once : (n v : ℕ) → v < n → occurrences v (Q s n) ≡ 1
   Q-once n v h = order-once (Q-order n) v h
 
-  pub Q-none : (n v : ℕ) → n ≤ v → occ v (Q s n) ≡ 0
+  pub Q-none : (n v : ℕ) → n ≤ v → occurrences v (Q s n) ≡ 0
   Q-none n v h = order-none (Q-order n) v h
 
   -- ---- for m ≤ n, Q(n) without numbers of m or more is Q(m)

@@ -9,7 +9,7 @@ use Prim.Native.Nat.{ℕ, _≤_, _<_}
 use native.Mathlib.Omega.{arith}
 use Rattle.lists.specs.Lists.{below, has, zeroTo, largest, find, without}
 use Rattle.lists.proofs.Tests.{below-yes, by-test}
-use Rattle.lists.proofs.Members.{has-yes, has-no, has→occ, occ-keep-no}
+use Rattle.lists.proofs.Members.{has-yes, has-no, has→occurrences, occurrences-keep-no}
 use Rattle.lists.proofs.Extremes.{by-max, extreme-of}
 use Rattle.lists.proofs.Having.{has-tail, has-more, has-again, has-out, has-others, has-fewer}
 use Rattle.lists.proofs.Finding.{find-passes, find-some, find-none, find-keep, find-same, find-removed, find-added}
@@ -25,8 +25,8 @@ Bounded A c = (x : ℕ) → has x A ≡ true → x < c
 
 -- 1 + the highest of the slots is above them all, and no higher than any number that is
 above-bounded : (A : List ℕ) → Bounded A (oneAbove (largest A))
-above-bounded [] x h = absurd (omega (arith, has→occ x [] h))
-above-bounded (y ∷ A) x h = omega (arith, extreme-of by-max y A .best x (has→occ x (y ∷ A) h))
+above-bounded [] x h = absurd (omega (arith, has→occurrences x [] h))
+above-bounded (y ∷ A) x h = omega (arith, extreme-of by-max y A .best x (has→occurrences x (y ∷ A) h))
 
 above-least : (A : List ℕ) (c : ℕ) → Bounded A c → oneAbove (largest A) ≤ c
 above-least [] c b = omega arith
@@ -48,7 +48,7 @@ unfolding actives
 has-actives t c x =
     by-test (active t c x)
     (λ y. has-yes x (actives t c) (omega (arith, actives-once t c x y)) ∙ sym y)
-    (λ n. has-no x (actives t c) (occ-keep-no (active t c) x (zeroTo c) n) ∙ sym n)
+    (λ n. has-no x (actives t c) (occurrences-keep-no (active t c) x (zeroTo c) n) ∙ sym n)
 
 pub actives-bounded : (t : List ℕ) (c : ℕ) → Bounded (actives t c) c
 actives-bounded t c x h = active→ t c x (sym (has-actives t c x) ∙ h) .0

@@ -14,16 +14,16 @@ unfoldable pub g : ℕ → ℕ → ℕ → ℕ
 g s i n = i + prevNumber (feed s i) (n - i)
 
 -- "the largest g(i, n) for i below k"; 0 for k 0
-unfoldable pub top : ℕ → ℕ → ℕ → ℕ
-top s zero n = 0
-top s (suc k) n = max (top s k n) (g s k n)
+unfoldable pub largestG : ℕ → ℕ → ℕ → ℕ
+largestG s zero n = 0
+largestG s (suc k) n = max (largestG s k n) (g s k n)
 
 -- "S(0, n) is empty; S(k, n) is b, the largest g(i, n) for i below k, with S(k−1, b)." "Samples lie ascending", so b is the
 -- last of them.
 unfoldable pub S : ℕ → ℕ → ℕ → List ℕ
 S s zero n = []
 S s (suc k) n =
-    let b = top s (suc k) n in
+    let b = largestG s (suc k) n in
     S s k b ++ (b ∷ [])
 
 -- "The choice order Q(n) has as t-th number the member of S(t, n) that S(t−1, n) lacks." Here t counts from 0.

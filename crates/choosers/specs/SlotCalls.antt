@@ -137,6 +137,6 @@ getCall m t s places =
     (refusal 12)
 
 -- "the scratch is free after an accepted get .., unchanged after a refused one"; it keeps its length
-abbrev pub Spared : Slot → List ℕ → List ℕ → Type 0
-Spared (slot.Number x) before now = length now ≡ length before
-Spared (slot.Refused w) before now = now ≡ before
+abbrev pub ScratchAfter : Slot → List ℕ → List ℕ → Type 0
+ScratchAfter (slot.Number x) before now = length now ≡ length before
+ScratchAfter (slot.Refused w) before now = now ≡ before

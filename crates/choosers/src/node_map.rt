@@ -3,7 +3,7 @@ ghost use mathlib.Core.Path.{_≡_};
 ghost use Prim.Native.Nat.{min};
 ghost use lib.ListN.{length};
 ghost use Rattle.choosers.specs.Slots.{stateOf};
-ghost use Rattle.choosers.specs.SlotCalls.{mapOf, slotLimit, fitting, added, addCall, removed, removeCall, toldCount, lenCall, toldTruth, isEmptyCall, isActiveCall, toldLooked, lookUp, toldSlot, getCall, Spared};
+ghost use Rattle.choosers.specs.SlotCalls.{mapOf, slotLimit, fitting, added, addCall, removed, removeCall, toldCount, lenCall, toldTruth, isEmptyCall, isActiveCall, toldLooked, lookUp, toldSlot, getCall, ScratchAfter};
 ghost use Rattle.choosers.specs.InnerSlots.{refusedSlot, refusedRemoval};
 use crate::lookups;
 use crate::tables;
@@ -233,7 +233,7 @@ impl ConsistentNodeMap {
     // The first active slot of the choice order of the count: refusals 12, 4, 11.
     pub fn get(self, table: &[u8], state: u64, scratch: &mut [u64]) -> Slot
         ensures { λ r. ⌜ toldSlot r ≡ getCall self (now (table .entry)) state (length (now (scratch .entry))) ⌝ }
-        ensures { λ r. ⌜ Spared r (now (scratch .entry)) (now (scratch .exit)) ⌝ }
+        ensures { λ r. ⌜ ScratchAfter r (now (scratch .entry)) (now (scratch .exit)) ⌝ }
     {
         if !self.fits(table) {
             return Slot::Refused(12);

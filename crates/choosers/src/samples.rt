@@ -4,7 +4,7 @@ ghost use mathlib.Core.Logic.{_⊎_};
 ghost use Prim.Native.Nat.{_^_, _<_, _≤_, max};
 ghost use lib.ListN.{length};
 ghost use Rattle.lists.specs.Lists.{written};
-ghost use Rattle.choosers.specs.Choosers.{g, top, S, moved, larger, lowerAt};
+ghost use Rattle.choosers.specs.Choosers.{g, largestG, S, moved, larger, lowerAt};
 ghost use Rattle.choosers.specs.ChooserCalls.{ascends};
 ghost use Rattle.choosers.specs.InnerChoosers.{growIn, Within, OwnOr, Owns, SameFrom};
 use hashes::ConsistentHasher;
@@ -103,7 +103,7 @@ pub(crate) fn grow(state: u64, n: u64, k: usize, list: &mut [u64]) -> usize
 // g(0, n), g(1, n), .. in the first k places, and the largest of them.
 fn first_samples(state: u64, n: u64, k: usize, list: &mut [u64]) -> u64
     requires { ⌜ (k ≤ length (now list)) × (k ≤ n) × (n ≤ 2 ^ 62) ⌝ }
-    ensures { λ r. ⌜ (r ≡ top state k n) × Owns state (now (list .exit)) k n × SameFrom k (now (list .entry)) (now (list .exit)) ⌝ }
+    ensures { λ r. ⌜ (r ≡ largestG state k n) × Owns state (now (list .exit)) k n × SameFrom k (now (list .entry)) (now (list .exit)) ⌝ }
 {
     let mut high = 0;
     let mut i = 0;
@@ -130,7 +130,7 @@ fn refreshed(state: u64, i: u64, x: u64, m: u64) -> u64
 // g(0, m), g(1, m), .. in the first k places, of which each is that already or is m. The answer is the largest of them.
 fn next_samples(state: u64, m: u64, k: usize, list: &mut [u64]) -> u64
     requires { ⌜ (k ≤ length (now list)) × (k ≤ m) × (m ≤ 2 ^ 62) × OwnOr state (now list) k m ⌝ }
-    ensures { λ r. ⌜ (r ≡ top state k m) × Owns state (now (list .exit)) k m × SameFrom k (now (list .entry)) (now (list .exit)) ⌝ }
+    ensures { λ r. ⌜ (r ≡ largestG state k m) × Owns state (now (list .exit)) k m × SameFrom k (now (list .entry)) (now (list .exit)) ⌝ }
 {
     let mut high = 0;
     let mut i = 0;

@@ -14,9 +14,9 @@ use Rattle.orders.specs.declared.consistent_reservoir.Opened.{Opened}
 use Rattle.orders.specs.declared.consistent_reservoir.Opened.the-variants as opened
 use Rattle.orders.specs.declared.consistent_reservoir.Exchange.the-variants as exchange
 use Rattle.orders.specs.declared.consistent_reservoir.Admitted.{Admitted}
-use Rattle.orders.specs.declared.consistent_reservoir.Raised.{Raised}
+use Rattle.orders.specs.declared.consistent_reservoir.LayerGrown.{LayerGrown}
 use Rattle.orders.specs.Outcomes.{toldOutcome}
-use Rattle.orders.specs.ReservoirCalls.{fitting, afterOpen, toldOpened, openCall, admitted, admitCall, raised, growLayerCall, afterSample, sampleCall}
+use Rattle.orders.specs.ReservoirCalls.{fitting, afterOpen, toldOpened, openCall, admitted, admitCall, layerGrown, growLayerCall, afterSample, sampleCall}
 use Rattle.exports.specs.Coded.{truth, codedDone}
 use Rattle.exports.specs.Crossings.{crossed, crossedOne}
 use Rattle.exports.specs.Reservoirs.{wordsOf, recordOf, newCrossed, nextCrossed, growCrossed, sampleCrossed, fitsCrossed}
@@ -64,8 +64,8 @@ pub grow-short : (ws l : List ℕ) (r : ℕ) → r ≡ 2 ^ 63 + 4 → length ws 
 unfolding growCrossed
 grow-short ws l r e h = rw (e, lt-ltb (length ws) 6 h)
 
-module _ (ws l : List ℕ) (r : ConsistentReservoir) (a : Raised) (l′ : List ℕ) (is : r ≡ recordOf ws) (e : raised a l′ ≡ growLayerCall r l) (h : 6 ≤ length ws) where
-  grown-words : growLayerCall (recordOf ws) l ≡ raised a l′
+module _ (ws l : List ℕ) (r : ConsistentReservoir) (a : LayerGrown) (l′ : List ℕ) (is : r ≡ recordOf ws) (e : layerGrown a l′ ≡ growLayerCall r l) (h : 6 ≤ length ws) where
+  grown-words : growLayerCall (recordOf ws) l ≡ layerGrown a l′
   grown-words = sym (e ∙ ap (λ (z : ConsistentReservoir). growLayerCall z l) is)
 
   pub grow-refused : (c x : ℕ) → a .outcome ≡ outcome.Refused c → x ≡ 2 ^ 63 + c → crossed x ws l′ ≡ growCrossed ws l

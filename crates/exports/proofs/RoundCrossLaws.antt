@@ -27,7 +27,7 @@ use Rattle.rounds.specs.Replays.{Replayed, afterReplay, replayCall}
 use Rattle.exports.specs.Coded.{truth, codedDone, codedNumber}
 use Rattle.exports.specs.Crossings.{crossed, crossedOne, enough, wordsAfter}
 use Rattle.exports.specs.Reservoirs.{codedExchange}
-use Rattle.exports.specs.Slots.{Spared}
+use Rattle.exports.specs.Slots.{ScratchAfter}
 use Rattle.exports.specs.Rounds.{roundWords, roundAs, wordsOpened, openCrossed, crossedRound, leftAs, crossedPlan, planCrossed, fitsCrossed, crossedReplay, replayCrossed, ReplayedAs}
 
 -- ---- the record goes to the words, by what was said
@@ -93,7 +93,7 @@ module _ (ws : List ℕ) (h : 7 ≤ length ws) (a : ℕ) where
 
 -- ---- the scratch and the ledger, by whether the call was refused
 
-pub outcome-spares : (o : Outcome) (a : ℕ) (before now : List ℕ) → a ≡ codedDone (toldOutcome o) → plans.Spared o before now → Spared a before now
+pub outcome-spares : (o : Outcome) (a : ℕ) (before now : List ℕ) → a ≡ codedDone (toldOutcome o) → plans.ScratchAfter o before now → ScratchAfter a before now
 outcome-spares outcome.Done a before now e s p = absurd (omega arith)
 outcome-spares (outcome.Refused w) a before now e s p = s
 

@@ -20,7 +20,7 @@ use Rattle.choosers.specs.SlotCalls.{mapOf, added, addCall, removed, removeCall
 use Rattle.choosers.specs.SlotCalls as calls
 use Rattle.exports.specs.Coded.{codedNumber, codedHash}
 use Rattle.exports.specs.Crossings.{crossedOne}
-use Rattle.exports.specs.Slots.{addCrossed, removeCrossed, Spared}
+use Rattle.exports.specs.Slots.{addCrossed, removeCrossed, ScratchAfter}
 
 -- ---- add and remove
 
@@ -70,10 +70,10 @@ module _ (n : Slot) (r : ℕ) where
   slot-refused x s w = rw s w
 
 -- the scratch after a get: a slot is no refusal
-pub slot-spares : (x r : ℕ) (before now : List ℕ) → x < 2 ^ 32 → r ≡ x → Spared r before now
+pub slot-spares : (x r : ℕ) (before now : List ℕ) → x < 2 ^ 32 → r ≡ x → ScratchAfter r before now
 slot-spares x r before now h w p = absurd (omega arith)
 
-pub refused-spares : (n : Slot) (x r : ℕ) (before now : List ℕ) → n ≡ slot.Refused x → calls.Spared n before now → Spared r before now
+pub refused-spares : (n : Slot) (x r : ℕ) (before now : List ℕ) → n ≡ slot.Refused x → calls.ScratchAfter n before now → ScratchAfter r before now
 refused-spares n x r before now s k p = rw s at k
 
 -- ---- the lookup without its tests

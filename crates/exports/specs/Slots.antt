@@ -37,5 +37,5 @@ codedTruth (says b) = truth b
 codedTruth (refusal w) = 2 ^ 63 + w
 
 -- a get that answers a refusal leaves the scratch
-abbrev pub Spared : ℕ → List ℕ → List ℕ → Type 0
-Spared a before now = 2 ^ 63 ≤ a → now ≡ before
+abbrev pub ScratchAfter : ℕ → List ℕ → List ℕ → Type 0
+ScratchAfter a before now = 2 ^ 63 ≤ a → now ≡ before

@@ -10,7 +10,7 @@ ghost use Rattle.rounds.specs.Rounds.{toldOpened};
 ghost use Rattle.exports.specs.Coded.{codedDone, codedNumber};
 ghost use Rattle.exports.specs.Crossings.{crossed, crossedOne, wordsAfter};
 ghost use Rattle.exports.specs.Reservoirs.{codedExchange};
-ghost use Rattle.exports.specs.Slots.{Spared};
+ghost use Rattle.exports.specs.Slots.{ScratchAfter};
 ghost use Rattle.exports.specs.Rounds.{roundWords, roundAs, wordsOpened, openCrossed, crossedRound, admitCrossed, joinCrossed, withdrawCrossed, crossedPlan, planCrossed, fitsCrossed, crossedReplay, replayCrossed, ReplayedAs};
 use crate::parts;
 use choosers::node_map::Outcome;
@@ -196,7 +196,7 @@ pub extern "C" fn perillajamb_round_plan(
     scratch: &mut [u64],
 ) -> u64
     ensures { λ r. ⌜ crossedPlan r (now (locations .exit)) (now (terminals .exit)) ≡ planCrossed (now (words .entry)) (now (list .entry)) (now (table .entry)) (now (locations .entry)) (now (terminals .entry)) (length (now (scratch .entry))) ⌝ }
-    ensures { λ r. ⌜ Spared r (now (scratch .entry)) (now (scratch .exit)) ⌝ }
+    ensures { λ r. ⌜ ScratchAfter r (now (scratch .entry)) (now (scratch .exit)) ⌝ }
 {
     if words.len() < 7 {
         return parts::refused(4);
@@ -234,7 +234,7 @@ pub extern "C" fn perillajamb_round_replay(
 ) -> u64
     ensures { λ r. ⌜ crossedReplay r (now (list .exit)) (now (table .exit)) (now (answers .exit)) (now (locations .exit)) (now (terminals .exit)) ≡ replayCrossed key k n (now (calls .entry)) (now (list .entry)) (now (table .entry)) (now (answers .entry)) (now (locations .entry)) (now (terminals .entry)) (length (now (scratch .entry))) ⌝ }
     ensures { λ r. ⌜ ReplayedAs r key k n (now (calls .entry)) (length (now (table .entry))) (length (now (scratch .entry))) (now (answers .exit)) (now (locations .exit)) (now (terminals .exit)) ⌝ }
-    ensures { λ r. ⌜ Spared r (now (scratch .entry)) (now (scratch .exit)) ⌝ }
+    ensures { λ r. ⌜ ScratchAfter r (now (scratch .entry)) (now (scratch .exit)) ⌝ }
 {
     let o = replays::replay(
         key,

@@ -6,7 +6,7 @@ ghost use Rattle.choosers.specs.Slots.{stateOf};
 ghost use Rattle.choosers.specs.SlotCalls.{mapOf, fitting, toldTruth, lenCall, isEmptyCall, isActiveCall, lookUp, getCall};
 ghost use Rattle.exports.specs.Coded.{truth, codedNumber, codedHash};
 ghost use Rattle.exports.specs.Crossings.{crossedOne};
-ghost use Rattle.exports.specs.Slots.{codedTruth, addCrossed, removeCrossed, Spared};
+ghost use Rattle.exports.specs.Slots.{codedTruth, addCrossed, removeCrossed, ScratchAfter};
 use crate::parts;
 use choosers::node_map;
 use choosers::node_map::ConsistentNodeMap;
@@ -113,7 +113,7 @@ pub extern "C" fn perillajamb_slots_get(
     scratch: &mut [u64],
 ) -> u64
     ensures { λ r. ⌜ r ≡ codedNumber (getCall (mapOf total) (now (table .entry)) state (length (now (scratch .entry)))) ⌝ }
-    ensures { λ r. ⌜ Spared r (now (scratch .entry)) (now (scratch .exit)) ⌝ }
+    ensures { λ r. ⌜ ScratchAfter r (now (scratch .entry)) (now (scratch .exit)) ⌝ }
 {
     let m = map_of(total);
     match m.get(table, state, scratch) {

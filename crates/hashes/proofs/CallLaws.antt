@@ -9,7 +9,7 @@ use Rattle.lists.proofs.Tests.{by-below}
 use Rattle.hashes.specs.declared.ConsistentHashRevIterator.{ConsistentHashRevIterator}
 use Rattle.hashes.specs.Hashes.{prev}
 use Rattle.hashes.specs.Calls.{limited}
-use Rattle.hashes.specs.Walks.{fallen, fall}
+use Rattle.hashes.specs.Walks.{goOnBelow, fall}
 
 pub limited-in : {A : Type 0} (n : ℕ) (a : A) → n ≤ 2 ^ 62 → limited n a ≡ says a
 unfolding limited
@@ -32,7 +32,7 @@ limited-refuses n c a e =
     (λ h. let q = limited-out n a h in (h, cc))
     (λ h. let q = limited-in n a h in let z : _≡_ {A = ℕ} 0 1 = cc in absurd (omega arith))
 
-pub fall-in : (w : ConsistentHashRevIterator) → w .n ≤ 2 ^ 62 → fall w ≡ fallen w (prev (w .state) (w .n))
+pub fall-in : (w : ConsistentHashRevIterator) → w .n ≤ 2 ^ 62 → fall w ≡ goOnBelow w (prev (w .state) (w .n))
 unfolding fall
 fall-in w h = rw (le-ltb (2 ^ 62) (w .n) h)
 

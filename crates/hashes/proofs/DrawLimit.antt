@@ -4,7 +4,7 @@ use mathlib.Core.Path.{_≡_, refl, ap}
 use mathlib.Core.List.{List, [], _∷_, _++_, replicate}
 use Prim.Native.Nat.{ℕ, zero, suc}
 use lib.ListN.{length}
-use Rattle.hashes.specs.Hashes.{feed, draw, draws, drawLimit, laterNumbers, numbers, minima, bucketHashes, bucketDraws}
+use Rattle.hashes.specs.Hashes.{feed, draw, draws, drawLimit, laterNumbers, numbers, prefixMinima, bucketHashes, bucketDraws}
 
 -- 255 draws of 7, then 5, then 4
 abbrev madeUp : List ℕ
@@ -16,7 +16,7 @@ unfolding bucketHashes numbers laterNumbers
 last-draw = refl
 
 -- "the Rust goes on there": with no limit the 257th would have given 4
-pub one-more : minima [] (numbers 4 madeUp) ≡ 7 ∷ 5 ∷ 4 ∷ []
+pub one-more : prefixMinima [] (numbers 4 madeUp) ≡ 7 ∷ 5 ∷ 4 ∷ []
 unfolding numbers laterNumbers
 one-more = refl
 

@@ -5,33 +5,33 @@ use mathlib.Core.Bool.{true, false}
 use mathlib.Core.Option.{some}
 use Prim.Native.Nat.{ℕ, suc, _≤_, _<_}
 use native.Mathlib.Omega.{arith}
-use Rattle.lists.specs.Lists.{keep, below, occ}
+use Rattle.lists.specs.Lists.{keep, below, occurrences}
 use Rattle.lists.proofs.Tests.{below-yes, below-no, below→lt, by-below}
-use Rattle.lists.proofs.Members.{has-yes, has→occ, not-has→occ, occ-keep-yes, keep-passes, keep-within, keep-agree}
+use Rattle.lists.proofs.Members.{has-yes, has→occurrences, not-has→occurrences, occurrences-keep-yes, keep-passes, keep-within, keep-agree}
 use Rattle.lists.proofs.Extremes.{Extreme, AtMost, by-max, pick-is, pick-extreme}
 use Rattle.hashes.specs.Hashes.{hashes, isHash, prev}
 use Rattle.hashes.specs.Calls.{prevNumber}
 use Rattle.hashes.proofs.PrevLaws.{prev-is}
 
-pub hash-occ : (s x : ℕ) → isHash s x ≡ true → 0 < occ x (hashes s)
+pub hash-occurrences : (s x : ℕ) → isHash s x ≡ true → 0 < occurrences x (hashes s)
 unfolding isHash
-hash-occ s x e = has→occ x (hashes s) e
+hash-occurrences s x e = has→occurrences x (hashes s) e
 
-pub occ-hash : (s x : ℕ) → 0 < occ x (hashes s) → isHash s x ≡ true
+pub occurrences-hash : (s x : ℕ) → 0 < occurrences x (hashes s) → isHash s x ≡ true
 unfolding isHash
-occ-hash s x h = has-yes x (hashes s) h
+occurrences-hash s x h = has-yes x (hashes s) h
 
-pub no-hash-occ : (s x : ℕ) → isHash s x ≡ false → occ x (hashes s) ≡ 0
+pub no-hash-occurrences : (s x : ℕ) → isHash s x ≡ false → occurrences x (hashes s) ≡ 0
 unfolding isHash
-no-hash-occ s x e = not-has→occ x (hashes s) e
+no-hash-occurrences s x e = not-has→occurrences x (hashes s) e
 
 -- what prev of n is makes it prev of n
 prev-when : (s n x : ℕ) → isHash s x ≡ true → x < n → ((z : ℕ) → isHash s z ≡ true → z < n → z ≤ x) → prev s n ≡ some x
 unfolding prev
 prev-when s n x h l m =
     pick-is by-max (keep (below n) (hashes s)) x (record {
-      there = omega (arith, occ-keep-yes (below n) x (hashes s) (below-yes x n l), hash-occ s x h);
-      best = λ z p. m z (occ-hash s z (keep-within (below n) z (hashes s) p)) (below→lt (keep-passes (below n) z (hashes s) p));
+      there = omega (arith, occurrences-keep-yes (below n) x (hashes s) (below-yes x n l), hash-occurrences s x h);
+      best = λ z p. m z (occurrences-hash s z (keep-within (below n) z (hashes s) p)) (below→lt (keep-passes (below n) z (hashes s) p));
     })
 
 extreme : (s n : ℕ) → 0 < n → Extreme AtMost (keep (below n) (hashes s)) (prevNumber s n)
@@ -44,12 +44,12 @@ prev-below s n h = below→lt (keep-passes (below n) (prevNumber s n) (hashes s)
 
 -- it is a hash
 pub prev-is-hash : (s n : ℕ) → 0 < n → isHash s (prevNumber s n) ≡ true
-prev-is-hash s n h = occ-hash s (prevNumber s n) (keep-within (below n) (prevNumber s n) (hashes s) (extreme s n h .there))
+prev-is-hash s n h = occurrences-hash s (prevNumber s n) (keep-within (below n) (prevNumber s n) (hashes s) (extreme s n h .there))
 
 -- no hash lies between it and n
 pub prev-between : (s n x : ℕ) → isHash s x ≡ true → x < n → x ≤ prevNumber s n
 prev-between s n x e l =
-    extreme s n (omega arith) .best x (omega (arith, occ-keep-yes (below n) x (hashes s) (below-yes x n l), hash-occ s x e))
+    extreme s n (omega arith) .best x (omega (arith, occurrences-keep-yes (below n) x (hashes s) (below-yes x n l), hash-occurrences s x e))
 
 -- for every m above it, up to n, it is prev of m too
 pub prev-same : (s m n : ℕ) → 0 < m → m ≤ n → prevNumber s n < m → prevNumber s m ≡ prevNumber s n
@@ -71,5 +71,5 @@ prev-suc-no s n e =
     (λ l. below-yes z (suc n) (omega arith) ∙ sym (below-yes z n l))
     (λ l. by-below n z
     (λ g. below-no z (suc n) (omega arith) ∙ sym (below-no z n l))
-    (λ g. let q : z ≡ n = omega arith in absurd (omega (arith, no-hash-occ s n e, rw q at p))))) in
+    (λ g. let q : z ≡ n = omega arith in absurd (omega (arith, no-hash-occurrences s n e, rw q at p))))) in
     rw same

@@ -8,7 +8,7 @@ use Prim.Native.Nat.{ℕ, suc, _+_, _^_, _≤_, _<_, min}
 use native.Mathlib.Omega.{arith}
 use native.Mathlib.Decide.{le-ind}
 use native.Mathlib.Numerals.{add-one}
-use Rattle.lists.specs.Lists.{keep, notBelow, occ, join, smallest}
+use Rattle.lists.specs.Lists.{keep, notBelow, occurrences, join, smallest}
 use Rattle.lists.proofs.Tests.{not-below-yes, not-below-no, by-test, by-below}
 use Rattle.lists.proofs.Members.{keep-within, keep-none, keep-append}
 use Rattle.lists.proofs.Extremes.{by-min, orElse, pick-first, pick-extreme}
@@ -62,7 +62,7 @@ up-skip s m k j t =
     j (t .from) (omega arith)
 
 -- no hash of a bucket is 0, so 0 may stand for none
-up-there : (s m k z : ℕ) → upTo s m k ≡ some z → 0 < occ z (buckets s k)
+up-there : (s m k z : ℕ) → upTo s m k ≡ some z → 0 < occurrences z (buckets s k)
 unfolding upTo
 up-there s m k z e = keep-within (notBelow m) z (buckets s k) (pick-extreme by-min (keep (notBelow m) (buckets s k)) z e .there)
 

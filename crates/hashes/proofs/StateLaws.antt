@@ -9,12 +9,12 @@ use native.Mathlib.Omega.{arith}
 use borrow.Author.Tests.{eq-eqb, ne-eqb}
 use lib.ListN.{take}
 use lib.Pow.{pow-pos}
-use Rattle.lists.specs.Lists.{occ}
+use Rattle.lists.specs.Lists.{occurrences}
 use Rattle.lists.proofs.Tests.{below-yes, below-no, by-test, by-below}
-use Rattle.lists.proofs.Members.{occ-append}
-use Rattle.hashes.specs.Hashes.{feed, draw, draws, drawLimit, numbers, laterNumbers, minima, bucketHashes, bucketDraws, isSet, bucket, buckets}
+use Rattle.lists.proofs.Members.{occurrences-append}
+use Rattle.hashes.specs.Hashes.{feed, draw, draws, drawLimit, numbers, laterNumbers, prefixMinima, bucketHashes, bucketDraws, isSet, bucket, buckets}
 use Rattle.hashes.specs.InnerSearch.{leastOf, leastFrom, numbersOf}
-use Rattle.hashes.proofs.BucketLaws.{numbers-within, minima-within}
+use Rattle.hashes.proofs.BucketLaws.{numbers-within, prefix-minima-within}
 
 -- the first number and the later ones
 pub numbers-open : (s i : ℕ)
@@ -52,7 +52,7 @@ pub set-no : (s i : ℕ) → s / 2 ^ i % 2 ≡ 0 → isSet s i ≡ false
 unfolding isSet
 set-no s i e = ne-eqb (s / 2 ^ i % 2) 1 (λ q. omega arith)
 
-pub bucket-set : (s i : ℕ) → isSet s i ≡ true → bucket s i ≡ minima [] (numbersOf s i)
+pub bucket-set : (s i : ℕ) → isSet s i ≡ true → bucket s i ≡ prefixMinima [] (numbersOf s i)
 unfolding bucket bucketHashes numbersOf
 bucket-set s i e = rw (e, draws-count s (2 ^ i))
 
@@ -60,23 +60,23 @@ pub bucket-clear : (s i : ℕ) → isSet s i ≡ false → bucket s i ≡ []
 unfolding bucket
 bucket-clear s i e = rw e
 
-pub numbers-of-within : (s i z : ℕ) → 0 < occ z (numbersOf s i) → (2 ^ i ≤ z) × (z < 2 ^ suc i)
+pub numbers-of-within : (s i z : ℕ) → 0 < occurrences z (numbersOf s i) → (2 ^ i ≤ z) × (z < 2 ^ suc i)
 unfolding numbersOf
 numbers-of-within s i z h =
     let w = numbers-within (2 ^ i) (bucketDraws s (2 ^ i)) z (pow-pos i) h in
     (w .0, omega (arith, w .1))
 
-pub bucket-within : (s i z : ℕ) → 0 < occ z (bucket s i) → (2 ^ i ≤ z) × (z < 2 ^ suc i)
+pub bucket-within : (s i z : ℕ) → 0 < occurrences z (bucket s i) → (2 ^ i ≤ z) × (z < 2 ^ suc i)
 bucket-within s i z h =
     by-test (isSet s i)
-    (λ y. numbers-of-within s i z (minima-within [] (numbersOf s i) z (rw (bucket-set s i y) at h)))
+    (λ y. numbers-of-within s i z (prefix-minima-within [] (numbersOf s i) z (rw (bucket-set s i y) at h)))
     (λ n. let e : 0 < 0 = rw (bucket-clear s i n) at h in absurd (omega arith))
 
 -- the hashes of the first k buckets lie below 2^k, and none is 0
-pub buckets-within : (s k z : ℕ) → 0 < occ z (buckets s k) → (0 < z) × (z < 2 ^ k)
+pub buckets-within : (s k z : ℕ) → 0 < occurrences z (buckets s k) → (0 < z) × (z < 2 ^ k)
 unfolding buckets
 buckets-within s zero z h = absurd (omega arith)
 buckets-within s (suc k) z h =
-    by-below 0 (occ z (buckets s k))
+    by-below 0 (occurrences z (buckets s k))
     (λ p. let w = buckets-within s k z p in (w .0, omega (arith, w .1)))
-    (λ p. let w = bucket-within s k z (omega (arith, occ-append z (buckets s k) (bucket s k))) in (omega (arith, w .0, pow-pos k), w .1))
+    (λ p. let w = bucket-within s k z (omega (arith, occurrences-append z (buckets s k) (bucket s k))) in (omega (arith, w .0, pow-pos k), w .1))

@@ -9,9 +9,9 @@ use native.Mathlib.Omega.{arith}
 use native.Mathlib.Numerals.{add-one}
 use Rattle.lists.specs.Told.{Told}
 use Rattle.lists.specs.Steps.{Step, answers, oneByOne}
-use Rattle.lists.specs.Lists.{keep, notBelow, occ, from}
+use Rattle.lists.specs.Lists.{keep, notBelow, occurrences, from}
 use Rattle.lists.proofs.Tests.{not-below-yes, not-below-no, by-test, by-below}
-use Rattle.lists.proofs.Members.{occ-cons, occ-keep-yes, keep-passes, keep-agree, keep-none}
+use Rattle.lists.proofs.Members.{occurrences-cons, occurrences-keep-yes, keep-passes, keep-agree, keep-none}
 use Rattle.lists.proofs.Extremes.{by-min, pick-is}
 use Rattle.lists.proofs.Turns.{Turn, ended, gave, all-answers}
 use Rattle.hashes.specs.declared.ConsistentHashRevIterator.{ConsistentHashRevIterator}
@@ -19,10 +19,10 @@ use Rattle.hashes.specs.declared.ConsistentHashIterator.{ConsistentHashI
 use Rattle.hashes.specs.Hashes.{buckets, hashes, isHash, prev}
 use Rattle.hashes.specs.Next.{smallestFrom}
 use Rattle.hashes.specs.Calls.{prevNumber}
-use Rattle.hashes.specs.Walks.{fallen, fall, hashesBelow, risen, rise, hashesFrom}
+use Rattle.hashes.specs.Walks.{goOnBelow, fall, hashesBelow, goOnAbove, rise, hashesFrom}
 use Rattle.hashes.proofs.StateLaws.{buckets-within}
 use Rattle.hashes.proofs.PrevLaws.{prev-none, prev-is}
-use Rattle.hashes.proofs.LargestLaws.{hash-occ, no-hash-occ, prev-below, prev-suc-yes, prev-suc-no}
+use Rattle.hashes.proofs.LargestLaws.{hash-occurrences, no-hash-occurrences, prev-below, prev-suc-yes, prev-suc-no}
 use Rattle.hashes.proofs.CallLaws.{fall-in}
 
 abbrev said-of : {W : Type 0} → Step W → Told (Option ℕ)
@@ -63,12 +63,12 @@ fall-turn w h = go (prev (w .state) (w .n)) refl
   where
     go : (o : Option ℕ) → prev (w .state) (w .n) ≡ o → Turn fall belowOf Falls w
     go none e =
-        let f : fall w ≡ fallen w none = fall-in w h ∙ ap (fallen w) e in
+        let f : fall w ≡ goOnBelow w none = fall-in w h ∙ ap (goOnBelow w) e in
         let z : belowOf w ≡ [] = below-open (w .state) (w .n) ∙ ap (downFrom (w .state)) e in
         let stays : fall w .walk ≡ w = ap walk-of f in
         ended (ap said-of f) (rw stays h) (ap belowOf stays ∙ z) z
     go (some x) e =
-        let f : fall w ≡ fallen w (some x) = fall-in w h ∙ ap (fallen w) e in
+        let f : fall w ≡ goOnBelow w (some x) = fall-in w h ∙ ap (goOnBelow w) e in
         gave x (ap said-of f) (rw f (omega (arith, some-le (w .state) (w .n) x e)))
         (below-open (w .state) (w .n) ∙ ap (downFrom (w .state)) e ∙ ap (λ (t : Step ConsistentHashRevIterator). x ∷ belowOf (t .walk)) (sym f))
 
@@ -78,15 +78,15 @@ falling-walk k s n h = all-answers fall-turn k (record { state = s; n = n }) h
 
 -- ---- rising
 
-hashes-lt : (s z : ℕ) → 0 < occ z (hashes s) → z < 2 ^ 63
+hashes-lt : (s z : ℕ) → 0 < occurrences z (hashes s) → z < 2 ^ 63
 unfolding hashes
-hashes-lt s z h = occ-cons z 0 (buckets s 63) h (λ e. omega arith) (λ t. (buckets-within s 63 z t) .1)
+hashes-lt s z h = occurrences-cons z 0 (buckets s 63) h (λ e. omega arith) (λ t. (buckets-within s 63 z t) .1)
 
 smallest-here : (s m : ℕ) → isHash s m ≡ true → smallestFrom s m ≡ some m
 unfolding smallestFrom
 smallest-here s m e =
     pick-is by-min (keep (notBelow m) (hashes s)) m (record {
-      there = omega (arith, occ-keep-yes (notBelow m) m (hashes s) (not-below-yes m m (omega arith)), hash-occ s m e);
+      there = omega (arith, occurrences-keep-yes (notBelow m) m (hashes s) (not-below-yes m m (omega arith)), hash-occurrences s m e);
       best = λ z p. by-below z m (λ l. absurd (true≢false (sym (keep-passes (notBelow m) z (hashes s) p) ∙ not-below-no z m l))) (λ l. l);
     })
 
@@ -98,7 +98,7 @@ smallest-on s m e =
     (λ l. not-below-no z m l ∙ sym (not-below-no z (suc m) (omega arith)))
     (λ l. by-below m z
     (λ g. not-below-yes z m l ∙ sym (not-below-yes z (suc m) g))
-    (λ g. let q : z ≡ m = omega arith in absurd (omega (arith, no-hash-occ s m e, rw q at p))))) in
+    (λ g. let q : z ≡ m = omega arith in absurd (omega (arith, no-hash-occurrences s m e, rw q at p))))) in
     rw same
 
 smallest-end : (s m : ℕ) → 2 ^ 63 ≤ m → smallestFrom s m ≡ none
@@ -134,11 +134,11 @@ rise-turn w h = go (smallestFrom (w .state) (w .low)) refl
   where
     go : (o : Option ℕ) → smallestFrom (w .state) (w .low) ≡ o → Turn rise aboveOf Rises w
     go none e =
-        let f : rise w ≡ risen w none = ap (risen w) e in
+        let f : rise w ≡ goOnAbove w none = ap (goOnAbove w) e in
         let z : aboveOf w ≡ [] = from-open (w .state) (w .low) ∙ ap (upFrom (w .state)) e in
         ended (ap said-of f) tt (ap (λ (t : Step ConsistentHashIterator). aboveOf (t .walk)) f ∙ z) z
     go (some x) e =
-        let f : rise w ≡ risen w (some x) = ap (risen w) e in
+        let f : rise w ≡ goOnAbove w (some x) = ap (goOnAbove w) e in
         gave x (ap said-of f) tt
         (from-open (w .state) (w .low) ∙ ap (upFrom (w .state)) e ∙ ap (λ (t : Step ConsistentHashIterator). x ∷ aboveOf (t .walk)) (sym f))
 

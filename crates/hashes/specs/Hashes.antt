@@ -44,13 +44,13 @@ lessThanAll x [] = true
 lessThanAll x (y ∷ ys) = ltb x y && lessThanAll x ys
 
 -- "A number is a hash if it is less than all before it in its bucket": those of a list, where `before` came before it
-abbrev pub minima : List ℕ → List ℕ → List ℕ
-minima before [] = []
-minima before (x ∷ xs) = put (lessThanAll x before) x (minima (x ∷ before) xs)
+abbrev pub prefixMinima : List ℕ → List ℕ → List ℕ
+prefixMinima before [] = []
+prefixMinima before (x ∷ xs) = put (lessThanAll x before) x (prefixMinima (x ∷ before) xs)
 
 -- the hashes of bucket b by its draws
 unfoldable pub bucketHashes : ℕ → List ℕ → List ℕ
-bucketHashes b ds = minima [] (numbers b (take drawLimit ds))
+bucketHashes b ds = prefixMinima [] (numbers b (take drawLimit ds))
 
 -- "d starts as mix(s xor b), which is no draw": the draws of bucket b of state s, as many as count
 unfoldable pub bucketDraws : ℕ → ℕ → List ℕ

@@ -8,7 +8,7 @@ ghost use Prim.Native.Nat.{_^_, _≤_};
 ghost use Rattle.hashes.specs.Hashes.{feed};
 ghost use Rattle.hashes.specs.Next.{low};
 ghost use Rattle.hashes.specs.Calls.{told, prevCall, nextCall};
-ghost use Rattle.hashes.specs.Walks.{toldFalling, fallingFrom, fell, fall, toldRising, risingFrom, rose, rise};
+ghost use Rattle.hashes.specs.Walks.{toldFalling, fallingFrom, fallingStep, fall, toldRising, risingFrom, risingStep, rise};
 
 // What a call that looks for a hash answers: the hash, that there is none, or a refusal with its number.
 pub enum Found {
@@ -102,7 +102,7 @@ pub enum Falling {
 }
 
 // A step of the falling walk: the walk after it, and what it found.
-pub struct Fell {
+pub struct FallingStep {
     pub walk: ConsistentHashRevIterator,
     pub found: Found,
 }
@@ -122,25 +122,25 @@ impl ConsistentHashRevIterator {
     }
 
     // The next hash and the walk after it; refusal 1 for a walk whose n is above the limit.
-    pub fn next(self) -> Fell
-        ensures { λ r. ⌜ fell r ≡ fall self ⌝ }
+    pub fn next(self) -> FallingStep
+        ensures { λ r. ⌜ fallingStep r ≡ fall self ⌝ }
     {
         let state = self.state;
         let n = self.n;
         if Self::N_LIMIT < n {
-            return Fell {
+            return FallingStep {
                 walk: self,
                 found: Found::Refused(1),
             };
         }
         if n == 0 {
-            return Fell {
+            return FallingStep {
                 walk: self,
                 found: Found::Nothing,
             };
         }
         let x = search::largest_below(state, n);
-        Fell {
+        FallingStep {
             walk: ConsistentHashRevIterator { state, n: x },
             found: Found::Hash(x),
         }
@@ -161,7 +161,7 @@ pub enum Rising {
 }
 
 // A step of the rising walk: the walk after it, and what it found.
-pub struct Rose {
+pub struct RisingStep {
     pub walk: ConsistentHashIterator,
     pub found: Found,
 }
@@ -184,18 +184,18 @@ impl ConsistentHashIterator {
     }
 
     // The next hash and the walk after it.
-    pub fn next(self) -> Rose
-        ensures { λ r. ⌜ rose r ≡ rise self ⌝ }
+    pub fn next(self) -> RisingStep
+        ensures { λ r. ⌜ risingStep r ≡ rise self ⌝ }
     {
         let state = self.state;
         let x = search::smallest_from(state, self.low);
         if x == search::HASH_BOUND {
-            return Rose {
+            return RisingStep {
                 walk: self,
                 found: Found::Nothing,
             };
         }
-        Rose {
+        RisingStep {
             walk: ConsistentHashIterator { state, low: x + 1 },
             found: Found::Hash(x),
         }

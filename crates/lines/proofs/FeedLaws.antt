@@ -15,8 +15,8 @@ use Rattle.lists.specs.Lists.{written}
 use Rattle.lists.proofs.Tests.{by-test}
 use Rattle.lines.specs.Replies.{textOf}
 use Rattle.lines.specs.Commands.{commandOf}
-use Rattle.lines.specs.Sessions.{World, world, site, Heard, hear, answered}
-use Rattle.lines.specs.Streams.{Stand, stand, byte, partly, fedUpTo, roomFor, count, AfterFeed, afterFeed, worldOf, afterCall, feedCall, endCall, Spared}
+use Rattle.lines.specs.Sessions.{World, world, site, Response, respond, answered}
+use Rattle.lines.specs.Streams.{Progress, progress, byte, fedPart, fedUpTo, roomFor, count, AfterFeed, afterFeed, worldOf, afterCall, feedCall, endCall, BuffersAfter}
 use Rattle.lines.specs.InnerLines.{placeOf, replyOf, Put}
 use Rattle.lines.specs.InnerSessions.{actBy, Holds, Says, Stepped, Took}
 use Rattle.lines.specs.declared.commands.Command.{Command}
@@ -25,56 +25,56 @@ use Rattle.lines.specs.declared.sessions.Session.{Session}
 use Rattle.lines.specs.declared.sessions.Fed.{Fed}
 use Rattle.lines.specs.declared.sessions.Feeding.the-variants as feeding
 use Rattle.lines.proofs.PutLaws.{put-none, put-fits, put-written, length-output}
-use Rattle.lines.proofs.HeldLaws.{take-cut, hear-first}
+use Rattle.lines.proofs.HeldLaws.{take-cut, respond-first}
 use Rattle.lines.proofs.StreamLaws.{byte-line, byte-held}
 
 -- ---- a line's answer
 
 -- what a line leaves and what it puts out
-abbrev pub Hears : Heard → World → List ℕ → ℕ → List ℕ → ℕ → Type 0
+abbrev pub Hears : Response → World → List ℕ → ℕ → List ℕ → ℕ → Type 0
 Hears h w out at out′ put = (w ≡ h .world) × Says (h .reply) out at out′ put
 
-pub heard-same : {h h′ : Heard} {w : World} {out out′ : List ℕ} {at put : ℕ} → h ≡ h′ → Hears h w out at out′ put → Hears h′ w out at out′ put
-heard-same {h} {h′} {w} {out} {out′} {at} {put} e x = subst (λ (z : Heard). Hears z w out at out′ put) e x
+pub response-same : {h h′ : Response} {w : World} {out out′ : List ℕ} {at put : ℕ} → h ≡ h′ → Hears h w out at out′ put → Hears h′ w out at out′ put
+response-same {h} {h′} {w} {out} {out′} {at} {put} e x = subst (λ (z : Response). Hears z w out at out′ put) e x
 
 -- the command is done, and what it says is put out
-pub heard-act : (w : World) (bytes : List ℕ) (cmd : Command) (a : Acted) (l t ls ts : List ℕ) (places : ℕ) (out out′ : List ℕ) (at put : ℕ)
+pub response-act : (w : World) (bytes : List ℕ) (cmd : Command) (a : Acted) (l t ls ts : List ℕ) (places : ℕ) (out out′ : List ℕ) (at put : ℕ)
     → cmd ≡ commandOf bytes → actBy a l t ls ts places ≡ answered w cmd → Put out at (textOf (replyOf (a .output) ls ts)) out′ put
-    → at + roomFor ls ≤ length out → Hears (hear w bytes) (world (site (a .current) l t) ls ts places) out at out′ put
-unfolding hear
-heard-act w bytes cmd a l t ls ts places out out′ at put e is p room =
-    heard-same (is ∙ ap (answered w) e)
+    → at + roomFor ls ≤ length out → Hears (respond w bytes) (world (site (a .current) l t) ls ts places) out at out′ put
+unfolding respond
+response-act w bytes cmd a l t ls ts places out out′ at put e is p room =
+    response-same (is ∙ ap (answered w) e)
     (refl, record { puts = p; fits = put-fits p (omega (arith, length-output (a .output) ls ts)) })
 
 -- nothing is held, and the line is what is there
-pub heard-bare : (w : World) (line bytes : List ℕ) (held : ℕ) → held ≡ 0 → hear w bytes ≡ hear w (take 81 (take held line ++ bytes))
-heard-bare w line bytes held e = sym (hear-first w bytes) ∙ ap (λ (m : ℕ). hear w (take 81 (take m line ++ bytes))) (sym e)
+pub response-bare : (w : World) (line bytes : List ℕ) (held : ℕ) → held ≡ 0 → respond w bytes ≡ respond w (take 81 (take held line ++ bytes))
+response-bare w line bytes held e = sym (respond-first w bytes) ∙ ap (λ (m : ℕ). respond w (take 81 (take m line ++ bytes))) (sym e)
 
 -- ---- bytes up to the first line feed
 
 module _ (most : ℕ) (w : World) (t : List ℕ) (m : length t ≤ most) where
-  feed-one : (h : List ℕ) (b : ℕ) (l : List ℕ) → fedUpTo most (stand w h t) (b ∷ l) ≡ fedUpTo most (byte (stand w h t) b) l
+  feed-one : (h : List ℕ) (b : ℕ) (l : List ℕ) → fedUpTo most (progress w h t) (b ∷ l) ≡ fedUpTo most (byte (progress w h t) b) l
   feed-one h b l = rw (le-leb (length t) most m)
 
   -- the line that a line feed ends
   pub feed-line : (h l : List ℕ) → placeOf 10 l < length l
-      → fedUpTo most (stand w (take 81 h) t) l
-      ≡ fedUpTo most (stand (hear w (take 81 (h ++ take (placeOf 10 l) l)) .world) [] (t ++ textOf (hear w (take 81 (h ++ take (placeOf 10 l) l)) .reply))) (drop (suc (placeOf 10 l)) l)
+      → fedUpTo most (progress w (take 81 h) t) l
+      ≡ fedUpTo most (progress (respond w (take 81 (h ++ take (placeOf 10 l) l)) .world) [] (t ++ textOf (respond w (take 81 (h ++ take (placeOf 10 l) l)) .reply))) (drop (suc (placeOf 10 l)) l)
   feed-line h [] p = absurd (omega arith)
   feed-line h (b ∷ l) p =
       by-test (eqb b 10)
-      (λ e. rw (e, append-nil h) (feed-one (take 81 h) b l ∙ ap (λ (s : Stand). fedUpTo most s l) (byte-line (stand w (take 81 h) t) b e)))
+      (λ e. rw (e, append-nil h) (feed-one (take 81 h) b l ∙ ap (λ (s : Progress). fedUpTo most s l) (byte-line (progress w (take 81 h) t) b e)))
       (λ e.
       let q : suc (placeOf 10 l) < suc (length l) = rw e at p in
       let n : placeOf 10 l < length l = omega arith in
       let a : (h ++ (b ∷ [])) ++ take (placeOf 10 l) l ≡ h ++ b ∷ take (placeOf 10 l) l = append-assoc h (b ∷ []) (take (placeOf 10 l) l) in
       rw (e, ← a)
       (feed-one (take 81 h) b l
-      ∙ ap (λ (s : Stand). fedUpTo most s l) (byte-held (stand w (take 81 h) t) b e ∙ ap (λ (x : List ℕ). stand w x t) (take-cut 81 h (b ∷ [])))
+      ∙ ap (λ (s : Progress). fedUpTo most s l) (byte-held (progress w (take 81 h) t) b e ∙ ap (λ (x : List ℕ). progress w x t) (take-cut 81 h (b ∷ [])))
       ∙ feed-line (h ++ (b ∷ [])) l n))
 
   -- bytes with no line feed are held
-  pub feed-held : (h l : List ℕ) → length l ≤ placeOf 10 l → fedUpTo most (stand w (take 81 h) t) l ≡ partly (stand w (take 81 (h ++ l)) t) []
+  pub feed-held : (h l : List ℕ) → length l ≤ placeOf 10 l → fedUpTo most (progress w (take 81 h) t) l ≡ fedPart (progress w (take 81 (h ++ l)) t) []
   feed-held h [] p = rw (append-nil h)
   feed-held h (b ∷ l) p =
       by-test (eqb b 10)
@@ -83,9 +83,9 @@ module _ (most : ℕ) (w : World) (t : List ℕ) (m : length t ≤ most) where
       let q : suc (length l) ≤ suc (placeOf 10 l) = rw e at p in
       let n : length l ≤ placeOf 10 l = omega arith in
       feed-one (take 81 h) b l
-      ∙ ap (λ (s : Stand). fedUpTo most s l) (byte-held (stand w (take 81 h) t) b e ∙ ap (λ (x : List ℕ). stand w x t) (take-cut 81 h (b ∷ [])))
+      ∙ ap (λ (s : Progress). fedUpTo most s l) (byte-held (progress w (take 81 h) t) b e ∙ ap (λ (x : List ℕ). progress w x t) (take-cut 81 h (b ∷ [])))
       ∙ feed-held (h ++ (b ∷ [])) l n
-      ∙ ap (λ (x : List ℕ). partly (stand w (take 81 x) t) []) (append-assoc h (b ∷ []) l))
+      ∙ ap (λ (x : List ℕ). fedPart (progress w (take 81 x) t) []) (append-assoc h (b ∷ []) l))
 
 -- ---- one turn
 
@@ -102,10 +102,10 @@ held-few line held h = sym (take-all 81 (take held line) (omega (arith, length-t
 
 module _ (bytes : List ℕ) (w : World) (line out : List ℕ) (held at e : ℕ) (few : held ≤ 81) (is : e ≡ placeOf 10 bytes) where
   -- a line feed is there, and its line was answered
-  pub step-line : (w′ : World) (line′ out′ : List ℕ) (put : ℕ) → e < length bytes → Hears (hear w (take 81 (take held line ++ take e bytes))) w′ out at out′ put
+  pub step-line : (w′ : World) (line′ out′ : List ℕ) (put : ℕ) → e < length bytes → Hears (respond w (take 81 (take held line ++ take e bytes))) w′ out at out′ put
       → Stepped bytes w line out held at w′ line′ out′ 0 (e + 1) put
   step-line w′ line′ out′ put h x =
-      let a = hear w (take 81 (take held line ++ take e bytes)) in
+      let a = respond w (take 81 (take held line ++ take e bytes)) in
       record {
         few = omega arith;
         some = omega arith;
@@ -116,13 +116,13 @@ module _ (bytes : List ℕ) (w : World) (line out : List ℕ) (held at e : ℕ) 
         is = λ most m.
             let n : length (take at out) ≤ most = omega (arith, length-take at out) in
             let g : placeOf 10 bytes < length bytes = omega arith in
-            let q : hear w (take 81 (take held line ++ take (placeOf 10 bytes) bytes)) ≡ a = ap (λ (i : ℕ). hear w (take 81 (take held line ++ take i bytes))) (sym is) in
-            ap (λ (l : List ℕ). fedUpTo most (stand w l (take at out)) bytes) (held-few line held few)
+            let q : respond w (take 81 (take held line ++ take (placeOf 10 bytes) bytes)) ≡ a = ap (λ (i : ℕ). respond w (take 81 (take held line ++ take i bytes))) (sym is) in
+            ap (λ (l : List ℕ). fedUpTo most (progress w l (take at out)) bytes) (held-few line held few)
             ∙ feed-line most w (take at out) n (take held line) bytes g
-            ∙ ap (λ (z : Heard). fedUpTo most (stand (z .world) [] (take at out ++ textOf (z .reply))) (drop (suc (placeOf 10 bytes)) bytes)) q
-            ∙ ap (λ (l : List ℕ). fedUpTo most (stand (a .world) [] l) (drop (suc (placeOf 10 bytes)) bytes)) (sym (put-take (x .1 .puts)))
-            ∙ ap (λ (v : World). fedUpTo most (stand v [] (take put out′)) (drop (suc (placeOf 10 bytes)) bytes)) (sym (x .0))
-            ∙ ap (λ (i : ℕ). fedUpTo most (stand w′ [] (take put out′)) (drop i bytes)) (ap suc (sym is) ∙ sym (add-one e));
+            ∙ ap (λ (z : Response). fedUpTo most (progress (z .world) [] (take at out ++ textOf (z .reply))) (drop (suc (placeOf 10 bytes)) bytes)) q
+            ∙ ap (λ (l : List ℕ). fedUpTo most (progress (a .world) [] l) (drop (suc (placeOf 10 bytes)) bytes)) (sym (put-take (x .1 .puts)))
+            ∙ ap (λ (v : World). fedUpTo most (progress v [] (take put out′)) (drop (suc (placeOf 10 bytes)) bytes)) (sym (x .0))
+            ∙ ap (λ (i : ℕ). fedUpTo most (progress w′ [] (take put out′)) (drop i bytes)) (ap suc (sym is) ∙ sym (add-one e));
       }
 
   -- none is there, and all bytes are held
@@ -138,27 +138,27 @@ module _ (bytes : List ℕ) (w : World) (line out : List ℕ) (held at e : ℕ) 
     is = λ most m.
         let q : length (take at out) ≤ most = omega (arith, length-take at out) in
         let g : length bytes ≤ placeOf 10 bytes = omega arith in
-        ap (λ (l : List ℕ). fedUpTo most (stand w l (take at out)) bytes) (held-few line held few)
+        ap (λ (l : List ℕ). fedUpTo most (progress w l (take at out)) bytes) (held-few line held few)
         ∙ feed-held most w (take at out) q (take held line) bytes g
-        ∙ ap (λ (l : List ℕ). partly (stand w l (take at out)) []) (sym (x .holds))
-        ∙ ap (fedUpTo most (stand w (take n line′) (take at out))) (sym (drop-of-length-le bytes {i = length bytes} (omega arith)));
+        ∙ ap (λ (l : List ℕ). fedPart (progress w l (take at out)) []) (sym (x .holds))
+        ∙ ap (fedUpTo most (progress w (take n line′) (take at out))) (sym (drop-of-length-le bytes {i = length bytes} (omega arith)));
   }
 
 -- ---- the loop
 
 -- so far: what remains to be fed, from where it stands now, comes to what the whole piece does
-pub record Going (most : ℕ) (start : Stand) (piece before : List ℕ) (w : World) (line out : List ℕ) (held taken put : ℕ) : Type 0 where
+pub record Going (most : ℕ) (start : Progress) (piece before : List ℕ) (w : World) (line out : List ℕ) (held taken put : ℕ) : Type 0 where
   pub few : held ≤ 81
   pub inside : taken ≤ length piece
   pub fits : put ≤ length out
   pub same : out ≡ written (take put out) before
-  pub on : fedUpTo most (stand w (take held line) (take put out)) (drop taken piece) ≡ fedUpTo most start piece
+  pub on : fedUpTo most (progress w (take held line) (take put out)) (drop taken piece) ≡ fedUpTo most start piece
 
-pub going-start : (most : ℕ) (w : World) (piece line out : List ℕ) (held : ℕ) → held ≤ 81 → Going most (stand w (take held line) []) piece out w line out held 0 0
+pub going-start : (most : ℕ) (w : World) (piece line out : List ℕ) (held : ℕ) → held ≤ 81 → Going most (progress w (take held line) []) piece out w line out held 0 0
 unfolding written
 going-start most w piece line out held h = record { few = h; inside = omega arith; fits = omega arith; same = refl; on = refl }
 
-module _ (most : ℕ) (start : Stand) (piece before : List ℕ) (w : World) (line out : List ℕ) (held taken put : ℕ) (g : Going most start piece before w line out held taken put) where
+module _ (most : ℕ) (start : Progress) (piece before : List ℕ) (w : World) (line out : List ℕ) (held taken put : ℕ) (g : Going most start piece before w line out held taken put) where
   -- another line
   pub going-more : (bytes : List ℕ) (w′ : World) (line′ out′ : List ℕ) (held′ n put′ : ℕ) → put ≤ most → bytes ≡ drop taken piece
       → Stepped bytes w line out held put w′ line′ out′ held′ n put′ → Going most start piece before w′ line′ out′ held′ (taken + n) put′
@@ -174,9 +174,9 @@ module _ (most : ℕ) (start : Stand) (piece before : List ℕ) (w : World) (lin
         fits = s .fits;
         same = put-written (take put out) before (s .text) puts ∙ ap (λ (x : List ℕ). written x before) (sym (put-take (s .puts)));
         on =
-            ap (fedUpTo most (stand w′ (take held′ line′) (take put′ out′))) (sym (ap (drop n) b ∙ drop-drop n taken piece))
+            ap (fedUpTo most (progress w′ (take held′ line′) (take put′ out′))) (sym (ap (drop n) b ∙ drop-drop n taken piece))
             ∙ sym (s .is most m)
-            ∙ ap (fedUpTo most (stand w (take held line) (take put out))) b
+            ∙ ap (fedUpTo most (progress w (take held line) (take put out))) b
             ∙ g .on;
       }
 
@@ -189,23 +189,23 @@ module _ (most : ℕ) (start : Stand) (piece before : List ℕ) (w : World) (lin
         inside = g .inside;
         fits = g .fits;
         same = g .same;
-        is = sym (g .on) ∙ ap (fedUpTo most (stand w (take held line) (take put out))) e ∙ ap (partly (stand w (take held line) (take put out))) (sym e);
+        is = sym (g .on) ∙ ap (fedUpTo most (progress w (take held line) (take put out))) e ∙ ap (fedPart (progress w (take held line) (take put out))) (sym e);
       }
 
   -- there may be no room for another answer
   pub took-full : taken < length piece → most < put → Took most start piece before w line out held taken put
   took-full h m =
-      let s = stand w (take held line) (take put out) in
+      let s = progress w (take held line) (take put out) in
       let e : drop taken piece ≡ getD piece taken 0 ∷ drop (suc taken) piece = drop-cons piece taken 0 h in
       let n : most < length (take put out) = omega (arith, length-take-le put out (g .fits)) in
-      let stop : fedUpTo most s (getD piece taken 0 ∷ drop (suc taken) piece) ≡ partly s (getD piece taken 0 ∷ drop (suc taken) piece) =
+      let stop : fedUpTo most s (getD piece taken 0 ∷ drop (suc taken) piece) ≡ fedPart s (getD piece taken 0 ∷ drop (suc taken) piece) =
       rw (lt-leb (length (take put out)) most n) in
       record {
         few = g .few;
         inside = g .inside;
         fits = g .fits;
         same = g .same;
-        is = sym (g .on) ∙ ap (fedUpTo most s) e ∙ stop ∙ ap (partly s) (sym e);
+        is = sym (g .on) ∙ ap (fedUpTo most s) e ∙ stop ∙ ap (fedPart s) (sym e);
       }
 
 -- ---- the calls
@@ -230,7 +230,7 @@ module _ (w : World) (line piece out : List ℕ) (held : ℕ) where
 
     pub feed-took : (most : ℕ) (w′ : World) (line′ out′ : List ℕ) (held′ taken put : ℕ) → most ≡ length out - roomFor (w .locations)
         → 81 ≤ length line → roomFor (w .locations) ≤ length out → length line′ ≡ length line
-        → Took most (stand w (take held line) []) piece out w′ line′ out′ held′ taken put
+        → Took most (progress w (take held line) []) piece out w′ line′ out′ held′ taken put
         → afterFeed (says (count taken put)) w′ (take held′ line′) held′ out′ ≡ feedCall w line held piece out
     unfolding feedCall
     feed-took most w′ line′ out′ held′ taken put m l r k t =
@@ -253,9 +253,9 @@ module _ (w : World) (line piece out : List ℕ) (held : ℕ) where
 -- a refusal: nothing has changed
 pub feed-refused : (f : Fed) (s : Session) (c : ℕ) → f ≡ record { session = s; feeding = feeding.Refused c }
     → (l t ls ts scratch line out : List ℕ) (x : AfterFeed) → afterFeed (refusal c) (worldOf s l t ls ts scratch) (take (s .held) line) (s .held) out ≡ x
-    → (afterCall f (worldOf (f .session) l t ls ts scratch) line out ≡ x) × Spared (f .feeding) line line scratch scratch
+    → (afterCall f (worldOf (f .session) l t ls ts scratch) line out ≡ x) × BuffersAfter (f .feeding) line line scratch scratch
 feed-refused f s c e l t ls ts scratch line out x is =
-    subst (λ (z : Fed). (afterCall z (worldOf (z .session) l t ls ts scratch) line out ≡ x) × Spared (z .feeding) line line scratch scratch) (sym e) (is, (refl, refl))
+    subst (λ (z : Fed). (afterCall z (worldOf (z .session) l t ls ts scratch) line out ≡ x) × BuffersAfter (z .feeding) line line scratch scratch) (sym e) (is, (refl, refl))
 
 -- ---- the end
 

@@ -7,7 +7,7 @@ use native.Mathlib.Omega.{arith}
 use native.Mathlib.Numerals.{add-one}
 use lib.ListN.{length, take, drop, getD, set, length-append, take-append-drop}
 use lib.Seq.{take-suc, take-suc-set, take-at, take-all, length-take-le}
-use Rattle.lines.specs.Sessions.{World, hear}
+use Rattle.lines.specs.Sessions.{World, respond}
 use Rattle.lines.specs.InnerSessions.{Holds}
 use Rattle.lines.proofs.CommandLaws.{command-first}
 
@@ -17,9 +17,9 @@ take-cut zero a b = refl
 take-cut (suc n) [] b = refl
 take-cut (suc n) (x ∷ a) b = ap (λ (l : List ℕ). x ∷ l) (take-cut n a b)
 
-pub hear-first : (w : World) (l : List ℕ) → hear w (take 81 l) ≡ hear w l
-unfolding hear
-hear-first w l = rw (command-first l)
+pub respond-first : (w : World) (l : List ℕ) → respond w (take 81 l) ≡ respond w l
+unfolding respond
+respond-first w l = rw (command-first l)
 
 -- ---- the bytes of a line held one after the other, behind p
 

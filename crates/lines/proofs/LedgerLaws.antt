@@ -16,7 +16,7 @@ use Rattle.rounds.proofs.PlanLaws.{own-plan}
 use Rattle.rounds.proofs.MoveLaws.{reached-kept}
 use Rattle.lines.specs.Commands.{commandOf, planWord, wordAlone}
 use Rattle.lines.specs.Replies as Replies
-use Rattle.lines.specs.Sessions.{Site, site, replied, opening, openLine, admitLine, joinLine, withdrawLine, planLine, World, answered, hear, afterLines}
+use Rattle.lines.specs.Sessions.{Site, site, replied, opening, openLine, admitLine, joinLine, withdrawLine, planLine, World, answered, respond, afterLines}
 use Rattle.lines.specs.declared.commands.Command.{Command}
 use Rattle.lines.specs.declared.commands.Command.the-variants as command
 use Rattle.lines.specs.declared.sessions.Current.{Current}
@@ -86,17 +86,17 @@ answered-reaches w command.Plan h = subst SiteReached (sym (plan-site w (w .site
 answered-reaches w command.Unknown h = h
 
 pub lines-reach : (ls : List (List ℕ)) (w : World) → SiteReached (w .site) → SiteReached (afterLines w ls .site)
-unfolding hear
+unfolding respond
 lines-reach [] w h = h
-lines-reach (l ∷ ls) w h = lines-reach ls (hear w l .world) (answered-reaches w (commandOf l) h)
+lines-reach (l ∷ ls) w h = lines-reach ls (respond w l .world) (answered-reaches w (commandOf l) h)
 
 -- ---- the plan
 
 -- the line `plan` where a round stands that is reached so, with lists and scratch long enough
 plan-by : (w : World) (r : Round) → w .site .current ≡ current.Open r → Reached (state r (w .site .list) (w .site .table))
     → Enough (r .k) (length (w .site .table)) (w .locations) (w .terminals) (w .places)
-    → hear w planWord .reply ≡ replied Replies.planned (planFrom (r .«master_key») (r .k) (r .n) (actives (w .site .table) (r .total)))
-unfolding hear commandOf wordAlone answered planLine
+    → respond w planWord .reply ≡ replied Replies.planned (planFrom (r .«master_key») (r .k) (r .n) (actives (w .site .table) (r .total)))
+unfolding respond commandOf wordAlone answered planLine
 plan-by w r e h enough =
     let s = state r (w .site .list) (w .site .table) in
     rw e (ap (replied Replies.planned) (own-plan s (reached-kept s h) (w .locations) (w .terminals) (w .places) enough))
@@ -104,7 +104,7 @@ plan-by w r e h enough =
 -- THE THEOREM. From no round, after any lines: where a round is open, `plan` prints the ledger's plan.
 pub plan-ledger : (w : World) → w .site .current ≡ current.Nothing → (ls : List (List ℕ)) (r : Round) → afterLines w ls .site .current ≡ current.Open r
     → Enough (r .k) (length (afterLines w ls .site .table)) (afterLines w ls .locations) (afterLines w ls .terminals) (afterLines w ls .places)
-    → hear (afterLines w ls) planWord .reply
+    → respond (afterLines w ls) planWord .reply
     ≡ replied Replies.planned (planFrom (r .«master_key») (r .k) (r .n) (actives (afterLines w ls .site .table) (r .total)))
 plan-ledger w none ls r e enough =
     let v = afterLines w ls in

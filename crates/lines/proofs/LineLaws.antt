@@ -24,7 +24,7 @@ use Rattle.rounds.specs.declared.round.Withdrawal.{Withdrawal}
 use Rattle.rounds.specs.Rounds.{roundOf, State, state, fitting, AfterOpen, afterOpen, toldOpened, openCall, admission, admitCall, joining, joinCall, withdrawal, withdrawCall}
 use Rattle.rounds.specs.Plans.{AfterPlan, afterPlan, planCall, toldOutcome, shownPlan}
 use Rattle.lines.specs.Replies as Replies
-use Rattle.lines.specs.Sessions.{site, said, replied, opening, openLine, onRound, saidOf, exchange, admitLine, joinLine, withdrawLine, heard, world, planLine}
+use Rattle.lines.specs.Sessions.{site, said, replied, opening, openLine, onRound, saidOf, exchange, admitLine, joinLine, withdrawLine, response, world, planLine}
 use Rattle.lines.specs.InnerLines.{lineOf, replyOf, Printable}
 use Rattle.lines.specs.InnerSessions.{saidBy, refusedBy, outcomeOf, planBy, planned}
 use Rattle.lines.specs.declared.texts.Answer.{Answer}
@@ -134,7 +134,7 @@ shown-output outcome.Done k ls ts = refl
 shown-output (outcome.Refused w) k ls ts = refl
 
 pub plan-none : (c : Current) (l t ls ts : List ℕ) (places : ℕ) → c ≡ current.Nothing
-    → heard (Replies.refused 12) (world (site c l t) ls ts places) ≡ planned (site c l t) ls ts places
+    → response (Replies.refused 12) (world (site c l t) ls ts places) ≡ planned (site c l t) ls ts places
 unfolding planLine
 plan-none c l t ls ts places e = none-yet c _ _ e
 
@@ -143,8 +143,8 @@ module _ (l t ls ts ls′ ts′ : List ℕ) (places : ℕ) (r : Round) (o : Outc
   unfolding planLine
   plan-on c e =
       ap (λ (x : Output). planBy x (site c l t) ls′ ts′ places) q
-      ∙ ap (λ (x : Replies.Reply). heard x (world (site c l t) ls′ ts′ places)) (shown-output o (r .k) ls′ ts′)
-      ∙ ap (λ (a : AfterPlan). heard (replied Replies.planned (shownPlan (r .k) a)) (world (site c l t) (a .locations) (a .terminals) places)) is
+      ∙ ap (λ (x : Replies.Reply). response x (world (site c l t) ls′ ts′ places)) (shown-output o (r .k) ls′ ts′)
+      ∙ ap (λ (a : AfterPlan). response (replied Replies.planned (shownPlan (r .k) a)) (world (site c l t) (a .locations) (a .terminals) places)) is
       ∙ on-round c r _ _ e
 
   pub plan-prints : length ls′ ≡ length ls → length ts′ ≡ length ts → Printable p ls′ ts′

@@ -8,7 +8,7 @@ use lib.ListN.{take}
 use Rattle.lists.proofs.Writing.{written-take}
 use Rattle.lines.specs.Lines.{linesOf}
 use Rattle.lines.specs.Sessions.{World, answers}
-use Rattle.lines.specs.Streams.{stand}
+use Rattle.lines.specs.Streams.{progress}
 use Rattle.lines.specs.Runs.{whole, Runs, finishes, feeds}
 use Rattle.lines.proofs.StreamLaws.{fed, ended, putOut, program}
 use Rattle.lines.proofs.PartLaws.{feed-feeds, feed-text, finish-ends}
@@ -17,10 +17,10 @@ run-puts : {w : World} {h : List ℕ} {parts : List (List ℕ)} {text : List ℕ
 unfolding putOut
 run-puts (finishes w line m out taken put e) =
     let f = finish-ends w line m out taken put e in
-    ap (take put) (f .out-is) ∙ written-take put (ended (stand w (take m line) []) .text) out (sym (f .put-is))
+    ap (take put) (f .out-is) ∙ written-take put (ended (progress w (take m line) []) .text) out (sym (f .put-is))
 run-puts (feeds w line m piece out taken put e parts text r) =
     let f = feed-feeds w line m piece out taken put e in
-    let s = fed (stand w (take m line) []) (take taken piece) in
+    let s = fed (progress w (take m line) []) (take taken piece) in
     ap (λ (t : List ℕ). t ++ text) (feed-text f)
     ∙ ap (λ (t : List ℕ). s .text ++ t) (run-puts r)
     ∙ (λ i. s .text ++ putOut (f .world-is i) (f .held-is i) parts)

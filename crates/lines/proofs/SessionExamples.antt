@@ -11,7 +11,7 @@ use Rattle.hashes.specs.Calls.{prevNumber}
 use Rattle.orders.specs.Orders.{log2, layerOf, output, counted, zeroTop, whole, P}
 use Rattle.orders.specs.Reservoirs.{opening}
 use Rattle.orders.specs.ReservoirCalls as Reservoir
-use Rattle.choosers.specs.Choosers.{g, top, S, Q}
+use Rattle.choosers.specs.Choosers.{g, largestG, S, Q}
 use Rattle.choosers.specs.Slots.{active, deleted, actives, vacant, holder, stateOf}
 use Rattle.choosers.specs.SlotCalls as Slots
 use Rattle.rounds.specs.Rounds.{fitting, openCall, joinCall, withdrawCall}
@@ -19,7 +19,7 @@ use Rattle.rounds.specs.Plans.{terminalOf, planCall, shownPlan}
 use Rattle.lines.specs.Lines.{linesOf}
 use Rattle.lines.specs.Commands.{within, digitOf, numberOf, keyOf, wordAlone, wordAndOne, wordAndThree, commandOf}
 use Rattle.lines.specs.Replies.{decimalOf, tabbed, placeLine, textOf}
-use Rattle.lines.specs.Sessions.{World, world, site, openLine, joinLine, withdrawLine, planLine, answered, hear, answers}
+use Rattle.lines.specs.Sessions.{World, world, site, openLine, joinLine, withdrawLine, planLine, answered, respond, answers}
 use Rattle.lines.specs.declared.sessions.Current.the-variants as current
 
 -- no round; a list of four places, a table of two bytes, the plan's lists and the scratch of two places
@@ -47,5 +47,5 @@ printed =
     ∷ 114 ∷ 101 ∷ 102 ∷ 117 ∷ 115 ∷ 101 ∷ 100 ∷ 9 ∷ 49 ∷ 49 ∷ 10 ∷ []
 
 pub document : answers memory (linesOf typed) ≡ printed
-unfolding hear answered openLine joinLine withdrawLine planLine commandOf wordAlone wordAndOne wordAndThree numberOf keyOf digitOf within textOf placeLine tabbed decimalOf openCall joinCall withdrawCall planCall shownPlan terminalOf fitting Reservoir.openCall Reservoir.fitting Reservoir.sample Slots.fitting Slots.addCall Slots.removeCall opening written P whole layerOf log2 below output counted zeroTop topBits layer start rounds round roundFunction nextKey over rotateRight every last actives active vacant deleted holder stateOf Q lacked has same S top g prevNumber prev hashes buckets bucket isSet bucketHashes bucketDraws draws draw feed numbers laterNumbers mix wrappingMul
+unfolding respond answered openLine joinLine withdrawLine planLine commandOf wordAlone wordAndOne wordAndThree numberOf keyOf digitOf within textOf placeLine tabbed decimalOf openCall joinCall withdrawCall planCall shownPlan terminalOf fitting Reservoir.openCall Reservoir.fitting Reservoir.sample Slots.fitting Slots.addCall Slots.removeCall opening written P whole layerOf log2 below output counted zeroTop topBits layer start rounds round roundFunction nextKey over rotateRight every last actives active vacant deleted holder stateOf Q lacked has same S largestG g prevNumber prev hashes buckets bucket isSet bucketHashes bucketDraws draws draw feed numbers laterNumbers mix wrappingMul
 document = refl

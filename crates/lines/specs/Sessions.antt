@@ -83,45 +83,45 @@ abbrev pub world : Site → List ℕ → List ℕ → ℕ → World
 world s ls ts places = record { site = s; locations = ls; terminals = ts; places = places }
 
 -- what is answered to a line, and what stands after it
-pub record Heard : Type 0 where
+pub record Response : Type 0 where
   pub reply : Reply
   pub world : World
 
-abbrev pub heard : Reply → World → Heard
-heard r w = record { reply = r; world = w }
+abbrev pub response : Reply → World → Response
+response r w = record { reply = r; world = w }
 
 -- the plan's sheets in place of its answer, the two lists as it left them
-unfoldable pub planLine : World → Heard
+unfoldable pub planLine : World → Response
 planLine w =
-    onRound (w .site .current) (heard (refused 12) w)
+    onRound (w .site .current) (response (refused 12) w)
     (λ r.
     let p = planCall (state r (w .site .list) (w .site .table)) (w .locations) (w .terminals) (w .places) in
-    heard (replied planned (shownPlan (r .k) p)) (world (w .site) (p .locations) (p .terminals) (w .places)))
+    response (replied planned (shownPlan (r .k) p)) (world (w .site) (p .locations) (p .terminals) (w .places)))
 
 -- the plan's lists stay
-abbrev pub onSite : World → Said → Heard
-onSite w a = heard (a .reply) (world (a .site) (w .locations) (w .terminals) (w .places))
+abbrev pub onSite : World → Said → Response
+onSite w a = response (a .reply) (world (a .site) (w .locations) (w .terminals) (w .places))
 
 -- "12 .. a program line of no known form"
-unfoldable pub answered : World → Command → Heard
+unfoldable pub answered : World → Command → Response
 answered w (command.Open key k n) = onSite w (openLine key k n (w .site))
 answered w command.Admit = onSite w (admitLine (w .site))
 answered w command.Join = onSite w (joinLine (w .site))
 answered w (command.Withdraw x) = onSite w (withdrawLine x (w .site))
 answered w command.Plan = planLine w
-answered w command.Unknown = heard (refused 12) w
+answered w command.Unknown = response (refused 12) w
 
 -- ---- lines
 
-unfoldable pub hear : World → List ℕ → Heard
-hear w line = answered w (commandOf line)
+unfoldable pub respond : World → List ℕ → Response
+respond w line = answered w (commandOf line)
 
 -- what stands after lines
 abbrev pub afterLines : World → List (List ℕ) → World
 afterLines w [] = w
-afterLines w (l ∷ ls) = afterLines (hear w l .world) ls
+afterLines w (l ∷ ls) = afterLines (respond w l .world) ls
 
 -- the text of the answers to lines in order, each on what the one before left
 abbrev pub answers : World → List (List ℕ) → List ℕ
 answers w [] = []
-answers w (l ∷ ls) = textOf (hear w l .reply) ++ answers (hear w l .world) ls
+answers w (l ∷ ls) = textOf (respond w l .reply) ++ answers (respond w l .world) ls

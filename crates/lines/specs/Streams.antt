@@ -9,48 +9,48 @@ use lib.ListN.{length, take}
 use Rattle.lists.specs.Told.{Told, refusal, says}
 use Rattle.lists.specs.Lists.{written}
 use Rattle.lines.specs.Replies.{textOf}
-use Rattle.lines.specs.Sessions.{site, World, world, hear}
+use Rattle.lines.specs.Sessions.{site, World, world, respond}
 use Rattle.lines.specs.declared.sessions.Session.{Session}
 use Rattle.lines.specs.declared.sessions.Feeding.{Feeding}
 use Rattle.lines.specs.declared.sessions.Feeding.the-variants as feeding
 use Rattle.lines.specs.declared.sessions.Fed.{Fed}
 
 -- what the program has, the bytes of a line that has not ended yet, and what was put out
-pub record Stand : Type 0 where
+pub record Progress : Type 0 where
   pub world : World
   pub held : List ℕ
   pub text : List ℕ
 
-abbrev pub stand : World → List ℕ → List ℕ → Stand
-stand w h t = record { world = w; held = h; text = t }
+abbrev pub progress : World → List ℕ → List ℕ → Progress
+progress w h t = record { world = w; held = h; text = t }
 
 -- Of a line its first 81 bytes are held, whatever its length: that is enough to know that it has more than 80.
 abbrev pub heldMost : ℕ
 heldMost = 81
 
 -- a byte: a line feed ends the line, which is answered; any other is held
-unfoldable pub byte : Stand → ℕ → Stand
+unfoldable pub byte : Progress → ℕ → Progress
 byte s b =
     cond (eqb b 10)
-    (stand (hear (s .world) (s .held) .world) [] (s .text ++ textOf (hear (s .world) (s .held) .reply)))
-    (stand (s .world) (take heldMost (s .held ++ (b ∷ []))) (s .text))
+    (progress (respond (s .world) (s .held) .world) [] (s .text ++ textOf (respond (s .world) (s .held) .reply)))
+    (progress (s .world) (take heldMost (s .held ++ (b ∷ []))) (s .text))
 
 -- the longest answer: 33 bytes for each place of a plan, or 32 for a line
 abbrev pub roomFor : List ℕ → ℕ
 roomFor ls = 33 * length ls + 32
 
 -- where a piece was fed as far as there was room: what stands then, and what is left of the piece
-pub record Partly : Type 0 where
-  pub stand : Stand
+pub record FedPart : Type 0 where
+  pub progress : Progress
   pub rest : List ℕ
 
-abbrev pub partly : Stand → List ℕ → Partly
-partly s l = record { stand = s; rest = l }
+abbrev pub fedPart : Progress → List ℕ → FedPart
+fedPart s l = record { progress = s; rest = l }
 
 -- byte after byte, as long as no more than so many bytes are put out
-abbrev pub fedUpTo : ℕ → Stand → List ℕ → Partly
-fedUpTo most s [] = partly s []
-fedUpTo most s (b ∷ l) = cond (leb (length (s .text)) most) (fedUpTo most (byte s b) l) (partly s (b ∷ l))
+abbrev pub fedUpTo : ℕ → Progress → List ℕ → FedPart
+fedUpTo most s [] = fedPart s []
+fedUpTo most s (b ∷ l) = cond (leb (length (s .text)) most) (fedUpTo most (byte s b) l) (fedPart s (b ∷ l))
 
 -- what a call of feed says: how many bytes of the piece it took, and how many it put out
 pub record Count : Type 0 where
@@ -89,8 +89,8 @@ afterCall f w line out = afterFeed (toldFeeding (f .feeding)) w (take (f .sessio
 unfoldable pub feedCall : World → List ℕ → ℕ → List ℕ → List ℕ → AfterFeed
 feedCall w line m piece out =
     let room = roomFor (w .locations) in
-    let p = fedUpTo (length out - room) (stand w (take m line) []) piece in
-    let s = p .stand in
+    let p = fedUpTo (length out - room) (progress w (take m line) []) piece in
+    let s = p .progress in
     cond (ltb heldMost m || ltb (length line) m) (afterFeed (refusal 12) w (take m line) m out)
     (cond (ltb (length line) heldMost || ltb (length out) room) (afterFeed (refusal 4) w (take m line) m out)
     (afterFeed (says (count (length piece - length (p .rest)) (length (s .text)))) (s .world) (s .held) (length (s .held)) (written (s .text) out)))
@@ -101,6 +101,6 @@ endCall w line m out = cond (eqb m 0) (afterFeed (says (count 0 0)) w [] 0 out) 
 
 -- Past what is held `line` is free after a call that is not refused, and so is the scratch; a refusal leaves both. They keep their
 -- lengths.
-abbrev pub Spared : Feeding → List ℕ → List ℕ → List ℕ → List ℕ → Type 0
-Spared (feeding.Fed t p) line line′ scratch scratch′ = (length line′ ≡ length line) × (length scratch′ ≡ length scratch)
-Spared (feeding.Refused c) line line′ scratch scratch′ = (line′ ≡ line) × (scratch′ ≡ scratch)
+abbrev pub BuffersAfter : Feeding → List ℕ → List ℕ → List ℕ → List ℕ → Type 0
+BuffersAfter (feeding.Fed t p) line line′ scratch scratch′ = (length line′ ≡ length line) × (length scratch′ ≡ length scratch)
+BuffersAfter (feeding.Refused c) line line′ scratch scratch′ = (line′ ≡ line) × (scratch′ ≡ scratch)

@@ -3,8 +3,8 @@ ghost use mathlib.Core.Path.{_≡_};
 ghost use mathlib.Core.List.{[], _++_};
 ghost use Prim.Native.Nat.{_≤_, _<_, _+_};
 ghost use lib.ListN.{length, take};
-ghost use Rattle.lines.specs.Sessions.{site, world, hear};
-ghost use Rattle.lines.specs.Streams.{heldMost, stand, roomFor, worldOf, afterCall, feedCall, endCall, Spared};
+ghost use Rattle.lines.specs.Sessions.{site, world, respond};
+ghost use Rattle.lines.specs.Streams.{heldMost, progress, roomFor, worldOf, afterCall, feedCall, endCall, BuffersAfter};
 ghost use Rattle.lines.specs.InnerSessions.{Holds, Says, Stepped, Took};
 use crate::calls;
 use crate::commands;
@@ -74,8 +74,8 @@ fn answer(
     at: usize,
 ) -> Replied
     requires { ⌜ at + roomFor (now locations) ≤ length (now out) ⌝ }
-    ensures { λ r. ⌜ world (site (r .current) (now (list .exit)) (now (table .exit))) (now (locations .exit)) (now (terminals .exit)) (length (now (scratch .entry))) ≡ hear (world (site current (now (list .entry)) (now (table .entry))) (now (locations .entry)) (now (terminals .entry)) (length (now (scratch .entry)))) (now (bytes .entry)) .world ⌝ }
-    ensures { λ r. ⌜ Says (hear (world (site current (now (list .entry)) (now (table .entry))) (now (locations .entry)) (now (terminals .entry)) (length (now (scratch .entry)))) (now (bytes .entry)) .reply) (now (out .entry)) at (now (out .exit)) (r .put) ⌝ }
+    ensures { λ r. ⌜ world (site (r .current) (now (list .exit)) (now (table .exit))) (now (locations .exit)) (now (terminals .exit)) (length (now (scratch .entry))) ≡ respond (world (site current (now (list .entry)) (now (table .entry))) (now (locations .entry)) (now (terminals .entry)) (length (now (scratch .entry)))) (now (bytes .entry)) .world ⌝ }
+    ensures { λ r. ⌜ Says (respond (world (site current (now (list .entry)) (now (table .entry))) (now (locations .entry)) (now (terminals .entry)) (length (now (scratch .entry)))) (now (bytes .entry)) .reply) (now (out .entry)) at (now (out .exit)) (r .put) ⌝ }
 {
     let command = commands::parse(bytes);
     let a = calls::act(current, command, list, table, locations, terminals, scratch);
@@ -102,8 +102,8 @@ fn end_line(
     at: usize,
 ) -> Replied
     requires { ⌜ (s .held ≤ heldMost) × (heldMost ≤ length (now line)) × (at + roomFor (now locations) ≤ length (now out)) ⌝ }
-    ensures { λ r. ⌜ world (site (r .current) (now (list .exit)) (now (table .exit))) (now (locations .exit)) (now (terminals .exit)) (length (now (scratch .entry))) ≡ hear (worldOf s (now (list .entry)) (now (table .entry)) (now (locations .entry)) (now (terminals .entry)) (now (scratch .entry))) (take heldMost (take (s .held) (now (line .entry)) ++ now (bytes .entry))) .world ⌝ }
-    ensures { λ r. ⌜ Says (hear (worldOf s (now (list .entry)) (now (table .entry)) (now (locations .entry)) (now (terminals .entry)) (now (scratch .entry))) (take heldMost (take (s .held) (now (line .entry)) ++ now (bytes .entry))) .reply) (now (out .entry)) at (now (out .exit)) (r .put) ⌝ }
+    ensures { λ r. ⌜ world (site (r .current) (now (list .exit)) (now (table .exit))) (now (locations .exit)) (now (terminals .exit)) (length (now (scratch .entry))) ≡ respond (worldOf s (now (list .entry)) (now (table .entry)) (now (locations .entry)) (now (terminals .entry)) (now (scratch .entry))) (take heldMost (take (s .held) (now (line .entry)) ++ now (bytes .entry))) .world ⌝ }
+    ensures { λ r. ⌜ Says (respond (worldOf s (now (list .entry)) (now (table .entry)) (now (locations .entry)) (now (terminals .entry)) (now (scratch .entry))) (take heldMost (take (s .held) (now (line .entry)) ++ now (bytes .entry))) .reply) (now (out .entry)) at (now (out .exit)) (r .put) ⌝ }
 {
     let held = s.held;
     let current = s.current;
@@ -204,7 +204,7 @@ fn take_lines(
     most: usize,
 ) -> Taken
     requires { ⌜ (session .held ≤ heldMost) × (heldMost ≤ length (now line)) × (most + roomFor (now locations) ≤ length (now out)) ⌝ }
-    ensures { λ r. ⌜ Took most (stand (worldOf session (now (list .entry)) (now (table .entry)) (now (locations .entry)) (now (terminals .entry)) (now (scratch .entry))) (take (session .held) (now (line .entry))) []) (now (piece .entry)) (now (out .entry)) (worldOf (r .session) (now (list .exit)) (now (table .exit)) (now (locations .exit)) (now (terminals .exit)) (now (scratch .exit))) (now (line .exit)) (now (out .exit)) (r .session .held) (r .taken) (r .put) ⌝ }
+    ensures { λ r. ⌜ Took most (progress (worldOf session (now (list .entry)) (now (table .entry)) (now (locations .entry)) (now (terminals .entry)) (now (scratch .entry))) (take (session .held) (now (line .entry))) []) (now (piece .entry)) (now (out .entry)) (worldOf (r .session) (now (list .exit)) (now (table .exit)) (now (locations .exit)) (now (terminals .exit)) (now (scratch .exit))) (now (line .exit)) (now (out .exit)) (r .session .held) (r .taken) (r .put) ⌝ }
 {
     let mut s = session;
     let mut taken = 0;
@@ -263,7 +263,7 @@ pub fn feed(
     out: &mut [u8],
 ) -> Fed
     ensures { λ f. ⌜ afterCall f (worldOf (f .session) (now (list .exit)) (now (table .exit)) (now (locations .exit)) (now (terminals .exit)) (now (scratch .exit))) (now (line .exit)) (now (out .exit)) ≡ feedCall (worldOf session (now (list .entry)) (now (table .entry)) (now (locations .entry)) (now (terminals .entry)) (now (scratch .entry))) (now (line .entry)) (session .held) (now (piece .entry)) (now (out .entry)) ⌝ }
-    ensures { λ f. ⌜ Spared (f .feeding) (now (line .entry)) (now (line .exit)) (now (scratch .entry)) (now (scratch .exit)) ⌝ }
+    ensures { λ f. ⌜ BuffersAfter (f .feeding) (now (line .entry)) (now (line .exit)) (now (scratch .entry)) (now (scratch .exit)) ⌝ }
 {
     let held = session.held;
     if 81 < held {
@@ -316,7 +316,7 @@ pub fn finish(
     out: &mut [u8],
 ) -> Fed
     ensures { λ f. ⌜ afterCall f (worldOf (f .session) (now (list .exit)) (now (table .exit)) (now (locations .exit)) (now (terminals .exit)) (now (scratch .exit))) (now (line .exit)) (now (out .exit)) ≡ endCall (worldOf session (now (list .entry)) (now (table .entry)) (now (locations .entry)) (now (terminals .entry)) (now (scratch .entry))) (now (line .entry)) (session .held) (now (out .entry)) ⌝ }
-    ensures { λ f. ⌜ Spared (f .feeding) (now (line .entry)) (now (line .exit)) (now (scratch .entry)) (now (scratch .exit)) ⌝ }
+    ensures { λ f. ⌜ BuffersAfter (f .feeding) (now (line .entry)) (now (line .exit)) (now (scratch .entry)) (now (scratch .exit)) ⌝ }
 {
     let held = session.held;
     if held == 0 {

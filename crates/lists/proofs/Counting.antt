@@ -6,12 +6,12 @@ use Prim.Native.Nat.{ℕ, zero, suc, _+_, _-_, _≤_, _<_}
 use native.Mathlib.Nat.{le-refl, add-suc, add-zero}
 use native.Mathlib.Omega.{arith}
 use lib.ListN.{length}
-use Rattle.lists.specs.Lists.{keep, below, occ, countBelow}
+use Rattle.lists.specs.Lists.{keep, below, occurrences, countBelow}
 use Rattle.lists.proofs.Tests.{below-yes, below-no, same-yes, same-no, by-test, by-below, by-same, by-three}
 use Rattle.lists.proofs.Keeping.{All, all-keep, all-of-length, keep-keep, below-below}
 
 -- one more number below: as often as it stands there
-pub count-step : (n : ℕ) (xs : List ℕ) → countBelow (suc n) xs ≡ countBelow n xs + occ n xs
+pub count-step : (n : ℕ) (xs : List ℕ) → countBelow (suc n) xs ≡ countBelow n xs + occurrences n xs
 count-step n [] = omega arith
 count-step n (x ∷ xs) =
     by-three x n
@@ -24,11 +24,11 @@ count-zero [] = refl
 count-zero (x ∷ xs) = rw (below-no x 0 (omega arith)) (count-zero xs)
 
 -- no number twice: at most n entries below n, and e more numbers add at most e entries
-pub count-le : (xs : List ℕ) → ((v : ℕ) → occ v xs ≤ 1) → (n : ℕ) → countBelow n xs ≤ n
+pub count-le : (xs : List ℕ) → ((v : ℕ) → occurrences v xs ≤ 1) → (n : ℕ) → countBelow n xs ≤ n
 count-le xs d zero = omega (arith, count-zero xs)
 count-le xs d (suc n) = omega (arith, count-step n xs, count-le xs d n, d n)
 
-pub count-add : (xs : List ℕ) → ((v : ℕ) → occ v xs ≤ 1) → (n e : ℕ) → countBelow (n + e) xs ≤ countBelow n xs + e
+pub count-add : (xs : List ℕ) → ((v : ℕ) → occurrences v xs ≤ 1) → (n e : ℕ) → countBelow (n + e) xs ≤ countBelow n xs + e
 count-add xs d n zero = rw (add-zero n) (omega arith)
 count-add xs d n (suc e) = rw (add-suc n e) (omega (arith, count-step (n + e) xs, count-add xs d n e, d (n + e)))
 
@@ -39,7 +39,7 @@ pub record Order (N : ℕ) (xs : List ℕ) : Type 0 where
   pub counts : (n : ℕ) → n ≤ N → countBelow n xs ≡ n
 
 -- N numbers below N, none twice, are an order of 0..N
-pub order-of : (N : ℕ) (xs : List ℕ) → length xs ≡ N → All (below N) xs → ((v : ℕ) → occ v xs ≤ 1) → Order N xs
+pub order-of : (N : ℕ) (xs : List ℕ) → length xs ≡ N → All (below N) xs → ((v : ℕ) → occurrences v xs ≤ 1) → Order N xs
 order-of N xs l a d = record { size = l; counts = c }
   where
     full : countBelow N xs ≡ N
@@ -53,24 +53,24 @@ order-of N xs l a d = record { size = l; counts = c }
         omega (arith, full, count-le xs d n)
 
 -- an entry not below n is not counted
-pub occ-count : (v n : ℕ) → n ≤ v → (xs : List ℕ) → occ v xs + countBelow n xs ≤ length xs
-occ-count v n l [] = omega arith
-occ-count v n l (x ∷ xs) =
+pub occurrences-count : (v n : ℕ) → n ≤ v → (xs : List ℕ) → occurrences v xs + countBelow n xs ≤ length xs
+occurrences-count v n l [] = omega arith
+occurrences-count v n l (x ∷ xs) =
     by-same x v
-    (λ e. rw (same-yes x v e, below-no x n (omega arith)) (omega (arith, occ-count v n l xs)))
-    (λ d. rw (same-no x v d) (by-test (below n x) (λ y. rw y (omega (arith, occ-count v n l xs))) (λ m. rw m (omega (arith, occ-count v n l xs)))))
+    (λ e. rw (same-yes x v e, below-no x n (omega arith)) (omega (arith, occurrences-count v n l xs)))
+    (λ d. rw (same-no x v d) (by-test (below n x) (λ y. rw y (omega (arith, occurrences-count v n l xs))) (λ m. rw m (omega (arith, occurrences-count v n l xs)))))
 
 module _ {N : ℕ} {xs : List ℕ} (o : Order N xs) where
   -- each number below N stands there once
-  pub order-once : (v : ℕ) → v < N → occ v xs ≡ 1
+  pub order-once : (v : ℕ) → v < N → occurrences v xs ≡ 1
   order-once v h = omega (arith, count-step v xs, o .counts v (omega arith), o .counts (suc v) h)
 
   -- and no other stands there
-  pub order-none : (v : ℕ) → N ≤ v → occ v xs ≡ 0
-  order-none v h = omega (arith, occ-count v N h xs, o .counts N (le-refl N), o .size)
+  pub order-none : (v : ℕ) → N ≤ v → occurrences v xs ≡ 0
+  order-none v h = omega (arith, occurrences-count v N h xs, o .counts N (le-refl N), o .size)
 
-  pub order-occ : (v : ℕ) → occ v xs ≤ 1
-  order-occ v = by-below v N (λ h. omega (arith, order-once v h)) (λ h. omega (arith, order-none v h))
+  pub order-occurrences : (v : ℕ) → occurrences v xs ≤ 1
+  order-occurrences v = by-below v N (λ h. omega (arith, order-once v h)) (λ h. omega (arith, order-none v h))
 
   pub order-all : All (below N) xs
   order-all = all-of-length (below N) xs (o .counts N (le-refl N) ∙ sym (o .size))

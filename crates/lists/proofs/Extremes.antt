@@ -6,9 +6,9 @@ use mathlib.Core.List.{List, [], _∷_, _++_, append-nil}
 use mathlib.Core.Option.{Option, none, some}
 use Prim.Native.Nat.{ℕ, _≤_, _<_, max, min}
 use native.Mathlib.Omega.{arith}
-use Rattle.lists.specs.Lists.{occ, join, pick}
+use Rattle.lists.specs.Lists.{occurrences, join, pick}
 use Rattle.lists.proofs.Tests.{by-below}
-use Rattle.lists.proofs.Members.{occ-head, occ-tail, occ-cons, occ-append}
+use Rattle.lists.proofs.Members.{occurrences-head, occurrences-tail, occurrences-cons, occurrences-append}
 
 -- op chooses one of two by the order R, in which R x y says that y is as good as x
 pub record Chooses (op : ℕ → ℕ → ℕ) (R : ℕ → ℕ → Type 0) : Type 0 where
@@ -41,8 +41,8 @@ by-min = record {
 
 -- y stands in the list, and is as good as every entry
 pub record Extreme (R : ℕ → ℕ → Type 0) (xs : List ℕ) (y : ℕ) : Type 0 where
-  pub there : 0 < occ y xs
-  pub best : (z : ℕ) → 0 < occ z xs → R z y
+  pub there : 0 < occurrences y xs
+  pub best : (z : ℕ) → 0 < occurrences z xs → R z y
 
 abbrev pub orElse : Option ℕ → Option ℕ → Option ℕ
 orElse none b = b
@@ -51,19 +51,19 @@ orElse (some x) b = some x
 module _ {op : ℕ → ℕ → ℕ} {R : ℕ → ℕ → Type 0} (C : Chooses op R) where
   extreme-one : (x : ℕ) → Extreme R (x ∷ []) x
   extreme-one x = record {
-    there = occ-head x [];
-    best = λ z h. occ-cons z x [] h (λ e. rw e (C .reflexive x)) (λ p. absurd (omega arith));
+    there = occurrences-head x [];
+    best = λ z h. occurrences-cons z x [] h (λ e. rw e (C .reflexive x)) (λ p. absurd (omega arith));
   }
 
   extreme-cons : (x y : ℕ) (xs : List ℕ) → Extreme R xs y → Extreme R (x ∷ xs) (op x y)
   extreme-cons x y xs e = ⊎-elim
       (λ (c : (op x y ≡ x) × R y x). rw (c .0) (record {
-        there = occ-head x xs;
-        best = λ z h. occ-cons z x xs h (λ q. rw q (C .reflexive x)) (λ p. C .transitive z y x (e .best z p) (c .1));
+        there = occurrences-head x xs;
+        best = λ z h. occurrences-cons z x xs h (λ q. rw q (C .reflexive x)) (λ p. C .transitive z y x (e .best z p) (c .1));
       }))
       (λ (c : (op x y ≡ y) × R x y). rw (c .0) (record {
-        there = occ-tail y x xs (e .there);
-        best = λ z h. occ-cons z x xs h (λ q. rw q (c .1)) (λ p. e .best z p);
+        there = occurrences-tail y x xs (e .there);
+        best = λ z h. occurrences-cons z x xs h (λ q. rw q (c .1)) (λ p. e .best z p);
       }))
       (C .chosen x y)
 
@@ -87,9 +87,9 @@ module _ {op : ℕ → ℕ → ℕ} {R : ℕ → ℕ → Type 0} (C : Chooses op
 
   -- of two lists, where every entry of the one is as good as every entry of the other
   better : (xs ys zs : List ℕ) (o : Option ℕ) → pick op xs ≡ o
-      → ((z : ℕ) → 0 < occ z xs → 0 < occ z zs)
-      → ((z : ℕ) → 0 < occ z zs → (0 < occ z xs) ⊎ (0 < occ z ys))
-      → ((x y : ℕ) → 0 < occ x xs → 0 < occ y ys → R y x)
+      → ((z : ℕ) → 0 < occurrences z xs → 0 < occurrences z zs)
+      → ((z : ℕ) → 0 < occurrences z zs → (0 < occurrences z xs) ⊎ (0 < occurrences z ys))
+      → ((x y : ℕ) → 0 < occurrences x xs → 0 < occurrences y ys → R y x)
       → (xs ≡ [] → zs ≡ ys)
       → pick op zs ≡ orElse o (pick op ys)
   better xs ys zs none e into out b empty = ap (pick op) (empty (pick-none xs e))
@@ -97,21 +97,21 @@ module _ {op : ℕ → ℕ → ℕ} {R : ℕ → ℕ → Type 0} (C : Chooses op
       let f = pick-extreme xs x e in
       pick-is zs x (record {
         there = into x (f .there);
-        best = λ z h. ⊎-elim (λ (p : 0 < occ z xs). f .best z p) (λ (p : 0 < occ z ys). b x z (f .there) p) (out z h);
+        best = λ z h. ⊎-elim (λ (p : 0 < occurrences z xs). f .best z p) (λ (p : 0 < occurrences z ys). b x z (f .there) p) (out z h);
       })
 
-  either : (v : ℕ) (xs ys : List ℕ) → 0 < occ v (xs ++ ys) → (0 < occ v xs) ⊎ (0 < occ v ys)
-  either v xs ys h = by-below 0 (occ v xs) (λ p. inl p) (λ p. inr (omega (arith, occ-append v xs ys)))
+  either : (v : ℕ) (xs ys : List ℕ) → 0 < occurrences v (xs ++ ys) → (0 < occurrences v xs) ⊎ (0 < occurrences v ys)
+  either v xs ys h = by-below 0 (occurrences v xs) (λ p. inl p) (λ p. inr (omega (arith, occurrences-append v xs ys)))
 
-  either-way : (v : ℕ) (xs ys : List ℕ) → 0 < occ v (xs ++ ys) → (0 < occ v ys) ⊎ (0 < occ v xs)
-  either-way v xs ys h = by-below 0 (occ v ys) (λ p. inl p) (λ p. inr (omega (arith, occ-append v xs ys)))
+  either-way : (v : ℕ) (xs ys : List ℕ) → 0 < occurrences v (xs ++ ys) → (0 < occurrences v ys) ⊎ (0 < occurrences v xs)
+  either-way v xs ys h = by-below 0 (occurrences v ys) (λ p. inl p) (λ p. inr (omega (arith, occurrences-append v xs ys)))
 
-  pub pick-first : (xs ys : List ℕ) → ((x y : ℕ) → 0 < occ x xs → 0 < occ y ys → R y x) → pick op (xs ++ ys) ≡ orElse (pick op xs) (pick op ys)
+  pub pick-first : (xs ys : List ℕ) → ((x y : ℕ) → 0 < occurrences x xs → 0 < occurrences y ys → R y x) → pick op (xs ++ ys) ≡ orElse (pick op xs) (pick op ys)
   pick-first xs ys b =
       better xs ys (xs ++ ys) (pick op xs) refl
-      (λ z h. omega (arith, occ-append z xs ys)) (λ z h. either z xs ys h) b (λ e. rw e)
+      (λ z h. omega (arith, occurrences-append z xs ys)) (λ z h. either z xs ys h) b (λ e. rw e)
 
-  pub pick-second : (xs ys : List ℕ) → ((x y : ℕ) → 0 < occ x xs → 0 < occ y ys → R x y) → pick op (xs ++ ys) ≡ orElse (pick op ys) (pick op xs)
+  pub pick-second : (xs ys : List ℕ) → ((x y : ℕ) → 0 < occurrences x xs → 0 < occurrences y ys → R x y) → pick op (xs ++ ys) ≡ orElse (pick op ys) (pick op xs)
   pick-second xs ys b =
       better ys xs (xs ++ ys) (pick op ys) refl
-      (λ z h. omega (arith, occ-append z xs ys)) (λ z h. either-way z xs ys h) (λ y x p q. b x y q p) (λ e. rw (e, append-nil xs))
+      (λ z h. omega (arith, occurrences-append z xs ys)) (λ z h. either-way z xs ys h) (λ y x p q. b x y q p) (λ e. rw (e, append-nil xs))

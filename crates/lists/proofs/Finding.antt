@@ -10,10 +10,10 @@ use native.Mathlib.Numerals.{add-one}
 use native.Mathlib.Omega.{arith}
 use lib.ListN.{length, drop, getD, drop-of-length-le}
 use lib.Seq.{drop-cons}
-use Rattle.lists.specs.Lists.{keep, occ, find}
+use Rattle.lists.specs.Lists.{keep, occurrences, find}
 use Rattle.lists.proofs.Tests.{by-test, by-same}
 use Rattle.lists.proofs.Keeping.{Stronger}
-use Rattle.lists.proofs.Members.{occ-head, occ-tail, occ-cons}
+use Rattle.lists.proofs.Members.{occurrences-head, occurrences-tail, occurrences-cons}
 
 -- at the head
 pub find-yes : (p : ℕ → Bool) (x : ℕ) (xs : List ℕ) → p x ≡ true → find p (x ∷ xs) ≡ some x
@@ -35,26 +35,26 @@ find-passes p (y ∷ xs) x e =
     (λ h. let z : y ≡ x = cc (find-yes p y xs h) in ap p (sym z) ∙ h)
     (λ n. find-passes p xs x (sym (find-no p y xs n) ∙ e))
 
-pub find-within : (p : ℕ → Bool) (xs : List ℕ) (x : ℕ) → find p xs ≡ some x → 0 < occ x xs
+pub find-within : (p : ℕ → Bool) (xs : List ℕ) (x : ℕ) → find p xs ≡ some x → 0 < occurrences x xs
 find-within p [] x e = absurd (let z : true ≡ false = cc in true≢false z)
 find-within p (y ∷ xs) x e =
     by-test (p y)
-    (λ h. let z : y ≡ x = cc (find-yes p y xs h) in rw z (occ-head x xs))
-    (λ n. occ-tail x y xs (find-within p xs x (sym (find-no p y xs n) ∙ e)))
+    (λ h. let z : y ≡ x = cc (find-yes p y xs h) in rw z (occurrences-head x xs))
+    (λ n. occurrences-tail x y xs (find-within p xs x (sym (find-no p y xs n) ∙ e)))
 
 -- where an entry passes, one is found; where none does, none
-pub find-some : (p : ℕ → Bool) (xs : List ℕ) (x : ℕ) → 0 < occ x xs → p x ≡ true → find p xs ≢ none
+pub find-some : (p : ℕ → Bool) (xs : List ℕ) (x : ℕ) → 0 < occurrences x xs → p x ≡ true → find p xs ≢ none
 find-some p [] x h y e = omega arith
 find-some p (z ∷ xs) x h y e =
     by-test (p z)
     (λ q. let w : true ≡ false = cc (find-yes p z xs q) in true≢false w)
-    (λ n. occ-cons x z xs h
+    (λ n. occurrences-cons x z xs h
     (λ s. true≢false (sym y ∙ ap p s ∙ n))
     (λ l. find-some p xs x l y (sym (find-no p z xs n) ∙ e)))
 
-pub find-none : (p : ℕ → Bool) (xs : List ℕ) → ((x : ℕ) → 0 < occ x xs → p x ≡ false) → find p xs ≡ none
+pub find-none : (p : ℕ → Bool) (xs : List ℕ) → ((x : ℕ) → 0 < occurrences x xs → p x ≡ false) → find p xs ≡ none
 find-none p [] f = refl
-find-none p (x ∷ xs) f = find-no p x xs (f x (occ-head x xs)) ∙ find-none p xs (λ y h. f y (occ-tail y x xs h))
+find-none p (x ∷ xs) f = find-no p x xs (f x (occurrences-head x xs)) ∙ find-none p xs (λ y h. f y (occurrences-tail y x xs h))
 
 -- dropping entries that fail a weaker test changes nothing
 pub find-keep : (p q : ℕ → Bool) → Stronger p q → (xs : List ℕ) → find p (keep q xs) ≡ find p xs
@@ -65,9 +65,9 @@ find-keep p q i (x ∷ xs) =
     (λ n. by-test (q x) (λ y. rw (y, n) (find-keep p q i xs)) (λ m. rw (m, n) (find-keep p q i xs)))
 
 -- tests that agree on the entries find the same one
-pub find-same : (p q : ℕ → Bool) (xs : List ℕ) → ((x : ℕ) → 0 < occ x xs → p x ≡ q x) → find p xs ≡ find q xs
+pub find-same : (p q : ℕ → Bool) (xs : List ℕ) → ((x : ℕ) → 0 < occurrences x xs → p x ≡ q x) → find p xs ≡ find q xs
 find-same p q [] e = refl
-find-same p q (x ∷ xs) e = rw (e x (occ-head x xs), find-same p q xs (λ y h. e y (occ-tail y x xs h)))
+find-same p q (x ∷ xs) e = rw (e x (occurrences-head x xs), find-same p q xs (λ y h. e y (occurrences-tail y x xs h)))
 
 -- ---- two tests that agree but for x
 

@@ -7,9 +7,9 @@ use Prim.Native.Nat.{ℕ, zero, suc, _+_, _≤_, _<_}
 use native.Mathlib.Omega.{arith}
 use lib.ListN.{length, getD, take, drop, drop-of-length-le, take-append-drop}
 use lib.Seq.{take-append-le, drop-append-le, take-all}
-use Rattle.lists.specs.Lists.{keep, below, occ, more, same, lacked}
+use Rattle.lists.specs.Lists.{keep, below, occurrences, more, same, lacked}
 use Rattle.lists.proofs.Tests.{below-no, same-yes, by-below, by-test}
-use Rattle.lists.proofs.Members.{has-yes, has-no, occ-head, occ-tail, occ-append, keep-append}
+use Rattle.lists.proofs.Members.{has-yes, has-no, occurrences-head, occurrences-tail, occurrences-append, keep-append}
 use Rattle.lists.proofs.Counting.{Order, count-step, order-none}
 
 -- x put in before the p-th number of l
@@ -36,11 +36,11 @@ insertAt-at l zero x h = refl
 insertAt-at [] (suc p) x h = absurd (omega arith)
 insertAt-at (y ∷ l) (suc p) x h = insertAt-at l p x (omega arith)
 
-pub occ-insertAt : (v : ℕ) (l : List ℕ) (p x : ℕ) → occ v (insertAt l p x) ≡ more (same v x) (occ v l)
+pub occurrences-insertAt : (v : ℕ) (l : List ℕ) (p x : ℕ) → occurrences v (insertAt l p x) ≡ more (same v x) (occurrences v l)
 unfolding insertAt
-occ-insertAt v l p x =
-    let a : occ v (take p l) + occ v (drop p l) ≡ occ v l = sym (occ-append v (take p l) (drop p l)) ∙ ap (occ v) (take-append-drop p l) in
-    occ-append v (take p l) (x ∷ drop p l)
+occurrences-insertAt v l p x =
+    let a : occurrences v (take p l) + occurrences v (drop p l) ≡ occurrences v l = sym (occurrences-append v (take p l) (drop p l)) ∙ ap (occurrences v) (take-append-drop p l) in
+    occurrences-append v (take p l) (x ∷ drop p l)
     ∙ by-test (same v x) (λ y. rw y (omega arith)) (λ n. rw n a)
 
 pub keep-insertAt : (m : ℕ) (l : List ℕ) (p x : ℕ) → m ≤ x → keep (below m) (insertAt l p x) ≡ keep (below m) l
@@ -51,18 +51,18 @@ keep-insertAt m l p x h =
 
 -- ---- the number put in is the one that a list with the others lacks
 
-lacked-split : (before after known : List ℕ) (x : ℕ) → ((v : ℕ) → 0 < occ v before → 0 < occ v known) → occ x known ≡ 0 → lacked (before ++ x ∷ after) known ≡ x
+lacked-split : (before after known : List ℕ) (x : ℕ) → ((v : ℕ) → 0 < occurrences v before → 0 < occurrences v known) → occurrences x known ≡ 0 → lacked (before ++ x ∷ after) known ≡ x
 unfolding lacked
 lacked-split [] after known x h e = rw (has-no x known e)
 lacked-split (y ∷ before) after known x h e =
-    rw (has-yes y known (h y (occ-head y before)))
-    (lacked-split before after known x (λ v q. h v (occ-tail v y before q)) e)
+    rw (has-yes y known (h y (occurrences-head y before)))
+    (lacked-split before after known x (λ v q. h v (occurrences-tail v y before q)) e)
 
-pub lacked-insertAt : (l known : List ℕ) (p x : ℕ) → ((v : ℕ) → 0 < occ v l → 0 < occ v known) → occ x known ≡ 0 → lacked (insertAt l p x) known ≡ x
+pub lacked-insertAt : (l known : List ℕ) (p x : ℕ) → ((v : ℕ) → 0 < occurrences v l → 0 < occurrences v known) → occurrences x known ≡ 0 → lacked (insertAt l p x) known ≡ x
 unfolding insertAt
 lacked-insertAt l known p x h e =
     lacked-split (take p l) (drop p l) known x
-    (λ v q. h v (omega (arith, occ-append v (take p l) (drop p l), ap (occ v) (take-append-drop p l)))) e
+    (λ v q. h v (omega (arith, occurrences-append v (take p l) (drop p l), ap (occurrences v) (take-append-drop p l)))) e
 
 -- ---- an order of 0..n with n put in is one of 0..n+1
 
@@ -77,8 +77,8 @@ order-insert n l p o h = record {
         count-step n (insertAt l p n),
         ap length (keep-insertAt n l p n (omega arith)),
         o .counts n (omega arith),
-        occ-insertAt n l p n,
-        ap (λ (b : Bool). more b (occ n l)) (same-yes n n refl),
+        occurrences-insertAt n l p n,
+        ap (λ (b : Bool). more b (occurrences n l)) (same-yes n n refl),
         order-none o n (omega arith),
       )));
 }

@@ -6,7 +6,7 @@ use mathlib.Core.List.{map}
 use Prim.Native.Nat.{ℕ, zero, suc, _+_, _≤_, _<_}
 use native.Mathlib.Omega.{arith}
 use lib.ListN.{length}
-use Rattle.lists.specs.Lists.{keep, below, occ, from, zeroTo}
+use Rattle.lists.specs.Lists.{keep, below, occurrences, from, zeroTo}
 use Rattle.lists.proofs.Tests.{below-yes, same-yes, same-no, by-same}
 use Rattle.lists.proofs.Keeping.{All, keep-map}
 use Rattle.lists.proofs.Counting.{Order, order-of}
@@ -25,12 +25,12 @@ pub from-length : (f : ℕ → ℕ) (a c : ℕ) → length (map f (from a c)) �
 from-length f a zero = refl
 from-length f a (suc c) = ap suc (from-length f (suc a) c)
 
-pub from-none : (f : ℕ → ℕ) (v a c : ℕ) → ((x : ℕ) → a ≤ x → x < a + c → f x ≢ v) → occ v (map f (from a c)) ≡ 0
+pub from-none : (f : ℕ → ℕ) (v a c : ℕ) → ((x : ℕ) → a ≤ x → x < a + c → f x ≢ v) → occurrences v (map f (from a c)) ≡ 0
 from-none f v a zero h = refl
 from-none f v a (suc c) h =
     rw (same-no (f a) v (h a (omega arith) (omega arith))) (from-none f v (suc a) c (λ x l u. h x (omega arith) (omega arith)))
 
-pub from-some : (f : ℕ → ℕ) (i a c : ℕ) → a ≤ i → i < a + c → 0 < occ (f i) (map f (from a c))
+pub from-some : (f : ℕ → ℕ) (i a c : ℕ) → a ≤ i → i < a + c → 0 < occurrences (f i) (map f (from a c))
 from-some f i a zero l u = absurd (omega arith)
 from-some f i a (suc c) l u =
     by-same (f a) (f i)
@@ -42,16 +42,16 @@ module _ {N : ℕ} {f g : ℕ → ℕ} (p : Permutation N f g) where
   from-all a zero h = tt
   from-all a (suc c) h = (below-yes (f a) N (p .stays a (omega arith)), from-all (suc a) c (omega arith))
 
-  from-occ : (v a c : ℕ) → a + c ≤ N → occ v (map f (from a c)) ≤ 1
-  from-occ v a zero h = omega arith
-  from-occ v a (suc c) h =
+  from-occurrences : (v a c : ℕ) → a + c ≤ N → occurrences v (map f (from a c)) ≤ 1
+  from-occurrences v a zero h = omega arith
+  from-occurrences v a (suc c) h =
       by-same (f a) v
       (λ e. rw (same-yes (f a) v e) (omega (arith, from-none f v (suc a) c (λ x l u e′. absurd (let i : a ≡ x = injective p a x (omega arith) (omega arith) (e ∙ sym e′) in omega arith)))))
-      (λ d. rw (same-no (f a) v d) (from-occ v (suc a) c (omega arith)))
+      (λ d. rw (same-no (f a) v d) (from-occurrences v (suc a) c (omega arith)))
 
   -- its outputs are an order of 0..N
   pub image-order : Order N (map f (zeroTo N))
-  image-order = order-of N (map f (zeroTo N)) (from-length f 0 N) (from-all 0 N (omega arith)) (λ v. from-occ v 0 N (omega arith))
+  image-order = order-of N (map f (zeroTo N)) (from-length f 0 N) (from-all 0 N (omega arith)) (λ v. from-occurrences v 0 N (omega arith))
 
   -- just m inputs have an output below m
   pub inputs-below : (m : ℕ) → m ≤ N → length (keep (λ x. below m (f x)) (zeroTo N)) ≡ m

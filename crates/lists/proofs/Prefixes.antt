@@ -8,47 +8,47 @@ use native.Mathlib.Nat.{le-refl}
 use native.Mathlib.Omega.{arith}
 use lib.ListN.{length, take, getD, length-append}
 use lib.Seq.{take-nil, take-at, getD-at, length-take-le}
-use Rattle.lists.specs.Lists.{put, keep, left, upTo, more, same, occ}
+use Rattle.lists.specs.Lists.{put, keep, left, upTo, more, same, occurrences}
 use Rattle.lists.proofs.Tests.{same-no, by-test}
 use Rattle.lists.proofs.Keeping.{All, all-of-length, keep-length, Stronger}
-use Rattle.lists.proofs.Members.{occ-head, occ-tail, occ-keep-yes, occ-keep-no, keep-append}
+use Rattle.lists.proofs.Members.{occurrences-head, occurrences-tail, occurrences-keep-yes, occurrences-keep-no, keep-append}
 
 -- ---- how often a number stands in a part
 
 -- one entry: an inequality between occurrences is kept
-pub occ-both : (v x : ℕ) {a b : ℕ} → a ≤ b → more (same v x) a ≤ more (same v x) b
-occ-both v x {a} {b} h = by-test (same v x) (λ y. rw y (suc-le-suc h)) (λ y. rw y h)
+pub occurrences-both : (v x : ℕ) {a b : ℕ} → a ≤ b → more (same v x) a ≤ more (same v x) b
+occurrences-both v x {a} {b} h = by-test (same v x) (λ y. rw y (suc-le-suc h)) (λ y. rw y h)
 
-pub occ-rest : (v x : ℕ) (xs : List ℕ) → occ v xs ≤ occ v (x ∷ xs)
-occ-rest v x xs = by-test (same v x) (λ y. rw y (omega arith)) (λ y. rw y (omega arith))
+pub occurrences-rest : (v x : ℕ) (xs : List ℕ) → occurrences v xs ≤ occurrences v (x ∷ xs)
+occurrences-rest v x xs = by-test (same v x) (λ y. rw y (omega arith)) (λ y. rw y (omega arith))
 
-pub occ-take : (v k : ℕ) (xs : List ℕ) → occ v (take k xs) ≤ occ v xs
-occ-take v k [] = rw (take-nil {A = ℕ} k) (omega arith)
-occ-take v zero (x ∷ xs) = zero-le
-occ-take v (suc k) (x ∷ xs) = occ-both v x (occ-take v k xs)
+pub occurrences-take : (v k : ℕ) (xs : List ℕ) → occurrences v (take k xs) ≤ occurrences v xs
+occurrences-take v k [] = rw (take-nil {A = ℕ} k) (omega arith)
+occurrences-take v zero (x ∷ xs) = zero-le
+occurrences-take v (suc k) (x ∷ xs) = occurrences-both v x (occurrences-take v k xs)
 
-pub occ-keep : (p : ℕ → Bool) (v : ℕ) (xs : List ℕ) → occ v (keep p xs) ≤ occ v xs
-occ-keep p v xs = by-test (p v) (λ y. omega (arith, occ-keep-yes p v xs y)) (λ n. omega (arith, occ-keep-no p v xs n))
+pub occurrences-keep : (p : ℕ → Bool) (v : ℕ) (xs : List ℕ) → occurrences v (keep p xs) ≤ occurrences v xs
+occurrences-keep p v xs = by-test (p v) (λ y. omega (arith, occurrences-keep-yes p v xs y)) (λ n. omega (arith, occurrences-keep-no p v xs n))
 
-pub occ-upTo : (p : ℕ → Bool) (v k : ℕ) (xs : List ℕ) → occ v (upTo p k xs) ≤ occ v xs
-occ-upTo p v k [] = zero-le
-occ-upTo p v zero (x ∷ xs) = zero-le
-occ-upTo p v (suc k) (x ∷ xs) = occ-both v x (occ-upTo p v (left (p x) k) xs)
+pub occurrences-upTo : (p : ℕ → Bool) (v k : ℕ) (xs : List ℕ) → occurrences v (upTo p k xs) ≤ occurrences v xs
+occurrences-upTo p v k [] = zero-le
+occurrences-upTo p v zero (x ∷ xs) = zero-le
+occurrences-upTo p v (suc k) (x ∷ xs) = occurrences-both v x (occurrences-upTo p v (left (p x) k) xs)
 
-pub occ-at : (xs : List ℕ) (t : ℕ) → t < length xs → 0 < occ (getD xs t 0) xs
-occ-at [] t h = absurd (omega arith)
-occ-at (x ∷ xs) zero h = occ-head x xs
-occ-at (x ∷ xs) (suc t) h = occ-tail (getD xs t 0) x xs (occ-at xs t (omega arith))
+pub occurrences-at : (xs : List ℕ) (t : ℕ) → t < length xs → 0 < occurrences (getD xs t 0) xs
+occurrences-at [] t h = absurd (omega arith)
+occurrences-at (x ∷ xs) zero h = occurrences-head x xs
+occurrences-at (x ∷ xs) (suc t) h = occurrences-tail (getD xs t 0) x xs (occurrences-at xs t (omega arith))
 
 -- a number that passes and is among the first k of all is among the first k of those that pass
-pub occ-first : (p : ℕ → Bool) (v : ℕ) → p v ≡ true → (k k′ : ℕ) → k ≤ k′ → (xs : List ℕ) → occ v (take k xs) ≤ occ v (take k′ (keep p xs))
-occ-first p v h k k′ l [] = rw (take-nil {A = ℕ} k) zero-le
-occ-first p v h zero k′ l (x ∷ xs) = zero-le
-occ-first p v h (suc k) zero l (x ∷ xs) = absurd (omega arith)
-occ-first p v h (suc k) (suc k′) l (x ∷ xs) =
+pub occurrences-first : (p : ℕ → Bool) (v : ℕ) → p v ≡ true → (k k′ : ℕ) → k ≤ k′ → (xs : List ℕ) → occurrences v (take k xs) ≤ occurrences v (take k′ (keep p xs))
+occurrences-first p v h k k′ l [] = rw (take-nil {A = ℕ} k) zero-le
+occurrences-first p v h zero k′ l (x ∷ xs) = zero-le
+occurrences-first p v h (suc k) zero l (x ∷ xs) = absurd (omega arith)
+occurrences-first p v h (suc k) (suc k′) l (x ∷ xs) =
     by-test (p x)
-    (λ y. rw y (occ-both v x (occ-first p v h k k′ (omega arith) xs)))
-    (λ m. rw (m, same-no x v (λ e. true≢false (sym h ∙ ap p (sym e) ∙ m))) (occ-first p v h k (suc k′) (omega arith) xs))
+    (λ y. rw y (occurrences-both v x (occurrences-first p v h k k′ (omega arith) xs)))
+    (λ m. rw (m, same-no x v (λ e. true≢false (sym h ∙ ap p (sym e) ∙ m))) (occurrences-first p v h k (suc k′) (omega arith) xs))
 
 -- ---- what is kept of a part
 
@@ -132,8 +132,8 @@ take-upTo : (p q : ℕ → Bool) → Stronger p q → (k : ℕ) (xs : List ℕ) 
 take-upTo p q i k xs =
     sym (keep-upTo q k (upTo p k xs)) ∙ ap (keep q) (upTo-upTo p q i k k (le-refl k) xs) ∙ keep-upTo q k xs
 
-pub occ-upTo-first : (p q : ℕ → Bool) → Stronger p q → (v k : ℕ) (xs : List ℕ) → occ v (take k (keep q xs)) ≤ occ v (upTo p k xs)
-occ-upTo-first p q i v k xs = rw (← take-upTo p q i k xs) (omega (arith, occ-take v k (keep q (upTo p k xs)), occ-keep q v (upTo p k xs)))
+pub occurrences-upTo-first : (p q : ℕ → Bool) → Stronger p q → (v k : ℕ) (xs : List ℕ) → occurrences v (take k (keep q xs)) ≤ occurrences v (upTo p k xs)
+occurrences-upTo-first p q i v k xs = rw (← take-upTo p q i k xs) (omega (arith, occurrences-take v k (keep q (upTo p k xs)), occurrences-keep q v (upTo p k xs)))
 
 -- if the list has enough entries, so has the rest of it
 pub left-fits : (p : ℕ → Bool) (k x : ℕ) (xs : List ℕ) → suc k ≤ length (keep p (x ∷ xs)) → left (p x) k ≤ length (keep p xs)

@@ -9,7 +9,7 @@ use native.Mathlib.Numerals.{add-one}
 use native.Mathlib.Decide.{le-ind}
 use native.Mathlib.Omega.{arith}
 use lib.ListN.{length, take, getD}
-use Rattle.lists.specs.Lists.{keep, occ, every, from, zeroTo}
+use Rattle.lists.specs.Lists.{keep, occurrences, every, from, zeroTo}
 use Rattle.lists.proofs.Tests.{same-yes, same-no, by-same}
 use Rattle.lists.proofs.Keeping.{both}
 use Rattle.lists.proofs.Members.{keep-append}
@@ -27,16 +27,16 @@ pub zero-to-snoc : (c : ℕ) → zeroTo (c + 1) ≡ zeroTo c ++ (c ∷ [])
 zero-to-snoc c = ap zeroTo (add-one c) ∙ zero-to-suc c
 
 -- each of them stands there once
-occ-before : (v a c : ℕ) → v < a → occ v (from a c) ≡ 0
-occ-before v a zero h = refl
-occ-before v a (suc c) h = rw (same-no a v (λ e. omega arith)) (occ-before v (suc a) c (omega arith))
+occurrences-before : (v a c : ℕ) → v < a → occurrences v (from a c) ≡ 0
+occurrences-before v a zero h = refl
+occurrences-before v a (suc c) h = rw (same-no a v (λ e. omega arith)) (occurrences-before v (suc a) c (omega arith))
 
-pub occ-from : (v a c : ℕ) → a ≤ v → v < a + c → occ v (from a c) ≡ 1
-occ-from v a zero l h = absurd (omega arith)
-occ-from v a (suc c) l h =
+pub occurrences-from : (v a c : ℕ) → a ≤ v → v < a + c → occurrences v (from a c) ≡ 1
+occurrences-from v a zero l h = absurd (omega arith)
+occurrences-from v a (suc c) l h =
     by-same a v
-    (λ e. rw (same-yes a v e) (ap suc (occ-before v (suc a) c (omega arith))))
-    (λ d. rw (same-no a v d) (occ-from v (suc a) c (omega arith) (omega arith)))
+    (λ e. rw (same-yes a v e) (ap suc (occurrences-before v (suc a) c (omega arith))))
+    (λ d. rw (same-no a v d) (occurrences-from v (suc a) c (omega arith) (omega arith)))
 
 -- where no number from d up passes, a longer range keeps no more
 pub keep-range : (p : ℕ → Bool) (d c : ℕ) → d ≤ c → ((x : ℕ) → d ≤ x → p x ≡ false) → keep p (zeroTo c) ≡ keep p (zeroTo d)

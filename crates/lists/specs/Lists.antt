@@ -40,13 +40,13 @@ more true k = suc k
 more false k = k
 
 -- how often v stands in the list
-abbrev pub occ : ℕ → List ℕ → ℕ
-occ v [] = 0
-occ v (x ∷ xs) = more (same v x) (occ v xs)
+abbrev pub occurrences : ℕ → List ℕ → ℕ
+occurrences v [] = 0
+occurrences v (x ∷ xs) = more (same v x) (occurrences v xs)
 
 -- whether v stands in the list
 unfoldable pub has : ℕ → List ℕ → Bool
-has v xs = ltb 0 (occ v xs)
+has v xs = ltb 0 (occurrences v xs)
 
 -- c numbers from a up
 abbrev pub from : ℕ → ℕ → List ℕ
@@ -139,8 +139,8 @@ lacked xs ys = Option·getD (find (λ x. not (has x ys)) xs) 0
 
 -- from the list l to the list l′ the number v comes in, o goes out, and the others keep their order
 pub record Exchanges (l l′ : List ℕ) (v o : ℕ) : Type 0 where
-  pub v-new : occ v l ≡ 0
-  pub v-in : occ v l′ ≡ 1
-  pub o-was : occ o l ≡ 1
-  pub o-out : occ o l′ ≡ 0
+  pub v-new : occurrences v l ≡ 0
+  pub v-in : occurrences v l′ ≡ 1
+  pub o-was : occurrences o l ≡ 1
+  pub o-out : occurrences o l′ ≡ 0
   pub others : without v l′ ≡ without o l

@@ -17,7 +17,7 @@ use Rattle.orders.specs.declared.consistent_reservoir.ConsistentReservoi
 use Rattle.orders.specs.declared.scans.Scan.{Scan}
 use Rattle.orders.specs.declared.scans.Wide.{Wide}
 use Rattle.orders.specs.Reservoirs.{outputs, grown, wider, incoming}
-use Rattle.orders.specs.ReservoirCalls.{keyOf, jOf, listed, sample, fitting, reservoirOf, admitted, exchangeBy, exchange, admitCall, raised, raiseTo, growLayerCall}
+use Rattle.orders.specs.ReservoirCalls.{keyOf, jOf, listed, sample, fitting, reservoirOf, admitted, exchangeBy, exchange, admitCall, layerGrown, growTo, growLayerCall}
 use Rattle.orders.specs.InnerPasses.{lowOf, rankOf, laidOf, scanOf, wideOf, refusal, shifted, exchanged}
 use Rattle.orders.proofs.LogLaws.{size-in, pow-up}
 use Rattle.orders.proofs.AdmissionLaws.{zeros-at}
@@ -145,14 +145,14 @@ module _ (r : ConsistentReservoir) (l : List ℕ) (p : (fitting r l ≡ true) ×
   length-is = grow-length r (jOf r + 1) l raise-fact (p .1) (omega (arith, p .2)) (omega arith) ∙ sym end-is
 
   pub raise-refused : length l < s .inputs
-      → raised (record { reservoir = r; outcome = Refused 4 }) l ≡ raiseTo r (grown (keyOf r) (jOf r + 1) (r .k) (listed r l)) l
-  unfolding raiseTo
+      → layerGrown (record { reservoir = r; outcome = Refused 4 }) l ≡ growTo r (grown (keyOf r) (jOf r + 1) (r .k) (listed r l)) l
+  unfolding growTo
   raise-refused h = rw (length-is, lt-ltb (length l) (s .inputs) h)
 
   pub raise-done : s .inputs ≤ length l
-      → raised (record { reservoir = reservoirOf (keyOf r) (r .k) (r .n) (jOf r + 1) (s .inputs); outcome = Done }) (laidOf (keyOf r) (jOf r + 1) (s .inputs) l)
-      ≡ raiseTo r (grown (keyOf r) (jOf r + 1) (r .k) (listed r l)) l
-  unfolding raiseTo
+      → layerGrown (record { reservoir = reservoirOf (keyOf r) (r .k) (r .n) (jOf r + 1) (s .inputs); outcome = Done }) (laidOf (keyOf r) (jOf r + 1) (s .inputs) l)
+      ≡ growTo r (grown (keyOf r) (jOf r + 1) (r .k) (listed r l)) l
+  unfolding growTo
   raise-done h =
       let xs : List ℕ = grown (keyOf r) (jOf r + 1) (r .k) (listed r l) in
       let t : take (s .inputs) xs ≡ xs = ap (λ (m : ℕ). take m xs) (sym length-is) ∙ take-length xs in
@@ -181,19 +181,19 @@ pub admit-grown : (r : ConsistentReservoir) (l : List ℕ) (w : Wide) → fittin
 unfolding admitCall
 admit-grown r l w e h f b = rw (e, le-ltb (r .k) (r .used) h, found (keyOf r) (r .k) (jOf r) w f b .is)
 
-pub grow-unfit : (r : ConsistentReservoir) (l : List ℕ) → fitting r l ≡ false → raised (record { reservoir = r; outcome = Refused 12 }) l ≡ growLayerCall r l
+pub grow-unfit : (r : ConsistentReservoir) (l : List ℕ) → fitting r l ≡ false → layerGrown (record { reservoir = r; outcome = Refused 12 }) l ≡ growLayerCall r l
 unfolding growLayerCall
 grow-unfit r l e = rw e
 
-pub grow-seven : (r : ConsistentReservoir) (l : List ℕ) → fitting r l ≡ true → r .k < r .used → raised (record { reservoir = r; outcome = Refused 7 }) l ≡ growLayerCall r l
+pub grow-seven : (r : ConsistentReservoir) (l : List ℕ) → fitting r l ≡ true → r .k < r .used → layerGrown (record { reservoir = r; outcome = Refused 7 }) l ≡ growLayerCall r l
 unfolding growLayerCall
 grow-seven r l e h = rw (e, lt-ltb (r .k) (r .used) h)
 
-pub grow-eight : (r : ConsistentReservoir) (l : List ℕ) → fitting r l ≡ true → r .used ≤ r .k → jOf r ≡ 14 → raised (record { reservoir = r; outcome = Refused 8 }) l ≡ growLayerCall r l
+pub grow-eight : (r : ConsistentReservoir) (l : List ℕ) → fitting r l ≡ true → r .used ≤ r .k → jOf r ≡ 14 → layerGrown (record { reservoir = r; outcome = Refused 8 }) l ≡ growLayerCall r l
 unfolding growLayerCall
 grow-eight r l e h f = rw (e, le-ltb (r .k) (r .used) h, eq-eqb (jOf r) 14 f)
 
 pub grow-raised : (r : ConsistentReservoir) (l : List ℕ) → fitting r l ≡ true → r .used ≤ r .k → (jOf r ≡ 14 → ⊥)
-    → raiseTo r (grown (keyOf r) (jOf r + 1) (r .k) (listed r l)) l ≡ growLayerCall r l
+    → growTo r (grown (keyOf r) (jOf r + 1) (r .k) (listed r l)) l ≡ growLayerCall r l
 unfolding growLayerCall
 grow-raised r l e h f = rw (e, le-ltb (r .k) (r .used) h, ne-eqb (jOf r) 14 f)

@@ -11,11 +11,11 @@ use native.Mathlib.Nat.{le-refl}
 use native.Mathlib.Omega.{arith}
 use lib.ListN.{length, take, getD}
 use lib.Seq.{take-suc, length-take-le}
-use Rattle.lists.specs.Lists.{keep, below, occ, has, without, other, Exchanges}
+use Rattle.lists.specs.Lists.{keep, below, occurrences, has, without, other, Exchanges}
 use Rattle.lists.proofs.Tests.{below-yes, below-no, same-yes, by-below, by-same}
-use Rattle.lists.proofs.Counting.{order-none, order-occ}
-use Rattle.lists.proofs.Members.{has-yes, has-no, has→occ, occ-append, occ-keep-yes, keep-agree, keep-append}
-use Rattle.lists.proofs.Prefixes.{occ-take, occ-first, keep-take}
+use Rattle.lists.proofs.Counting.{order-none, order-occurrences}
+use Rattle.lists.proofs.Members.{has-yes, has-no, has→occurrences, occurrences-append, occurrences-keep-yes, keep-agree, keep-append}
+use Rattle.lists.proofs.Prefixes.{occurrences-take, occurrences-first, keep-take}
 use Rattle.lists.proofs.Searching.{first-some, first-none, by-first}
 use Rattle.lists.proofs.Without.{other-yes, other-no, without-length, without-none}
 use Rattle.orders.specs.Orders.{P}
@@ -26,7 +26,7 @@ use Rattle.orders.proofs.HeldLaws.{Enters, Next}
 -- ---- the search
 
 enters-no : (key k u : ℕ) → (Enters key k u → ⊥) → has u (take k (P key (suc u))) ≡ false
-enters-no key k u h = has-no u (take k (P key (suc u))) (by-below 0 (occ u (take k (P key (suc u)))) (λ a. absurd (h a)) (λ a. omega arith))
+enters-no key k u h = has-no u (take k (P key (suc u))) (by-below 0 (occurrences u (take k (P key (suc u)))) (λ a. absurd (h a)) (λ a. omega arith))
 
 pub due-some : (key k n v : ℕ) → Next key k n v → v < 2 ^ 30 → due key k n ≡ some v
 unfolding due
@@ -53,7 +53,7 @@ due-next key k n v e =
       omega arith,
       record {
         large = a;
-        enters = has→occ i (take k (P key (suc i))) y;
+        enters = has→occurrences i (take k (P key (suc i))) y;
         first = λ u c d h. true≢false (sym (has-yes u (take k (P key (suc u))) h) ∙ z u c d);
       },
     ))
@@ -70,10 +70,10 @@ due-never key k n e u a b h =
 -- ---- the first k of P(n) and of a later order
 
 -- out stays out: a number below n that is not among the first k of P(n) is not among the first k of a later order
-pub out-stays-out : (key k n n′ x : ℕ) → x < n → n ≤ n′ → n′ ≤ 2 ^ 30 → 0 < occ x (take k (P key n′)) → 0 < occ x (take k (P key n))
+pub out-stays-out : (key k n n′ x : ℕ) → x < n → n ≤ n′ → n′ ≤ 2 ^ 30 → 0 < occurrences x (take k (P key n′)) → 0 < occurrences x (take k (P key n))
 out-stays-out key k n n′ x a b l c =
-    let h : occ x (take k (P key n′)) ≤ occ x (take k (keep (below n) (P key n′))) = occ-first (below n) x (below-yes x n a) k k (le-refl k) (P key n′) in
-    let e : occ x (take k (keep (below n) (P key n′))) ≡ occ x (take k (P key n)) = ap (λ (r : List ℕ). occ x (take k r)) (P-part key n n′ b l) in
+    let h : occurrences x (take k (P key n′)) ≤ occurrences x (take k (keep (below n) (P key n′))) = occurrences-first (below n) x (below-yes x n a) k k (le-refl k) (P key n′) in
+    let e : occurrences x (take k (keep (below n) (P key n′))) ≡ occurrences x (take k (P key n)) = ap (λ (r : List ℕ). occurrences x (take k r)) (P-part key n n′ b l) in
     omega arith
 
 module _ (key k n v : ℕ) (k0 : 0 < k) (kn : k ≤ n) (x : Next key k n v) (v-small : v < 2 ^ 30) where
@@ -83,11 +83,11 @@ module _ (key k n v : ℕ) (k0 : 0 < k) (kn : k ≤ n) (x : Next key k n v) (v-s
   n-small : n ≤ 2 ^ 30
   n-small = omega (arith, x .large)
 
-  once : (u m : ℕ) → m ≤ 2 ^ 30 → occ u (take k (P key m)) ≤ 1
-  once u m b = omega (arith, occ-take u k (P key m), order-occ (P-order key m b) u)
+  once : (u m : ℕ) → m ≤ 2 ^ 30 → occurrences u (take k (P key m)) ≤ 1
+  once u m b = omega (arith, occurrences-take u k (P key m), order-occurrences (P-order key m b) u)
 
-  sample-none : (u m : ℕ) → m ≤ 2 ^ 30 → m ≤ u → occ u (take k (P key m)) ≡ 0
-  sample-none u m b h = omega (arith, occ-take u k (P key m), order-none (P-order key m b) u h)
+  sample-none : (u m : ℕ) → m ≤ 2 ^ 30 → m ≤ u → occurrences u (take k (P key m)) ≡ 0
+  sample-none u m b h = omega (arith, occurrences-take u k (P key m), order-none (P-order key m b) u h)
 
   sample-snoc : take k (P key n) ≡ take (k - 1) (P key n) ++ (o ∷ [])
   sample-snoc =
@@ -118,8 +118,8 @@ module _ (key k n v : ℕ) (k0 : 0 < k) (kn : k ≤ n) (x : Next key k n v) (v-s
       ∙ ap (λ (r : List ℕ). take (length (keep (below n) (take k (P key (suc v))))) r) (P-part key n (suc v) (omega (arith, x .large)) v-small)
       ∙ ap (λ (i : ℕ). take i (P key n)) e
 
-  o-one : occ o (take k (P key n)) ≡ occ o (take (k - 1) (P key n)) + 1
-  o-one = ap (occ o) sample-snoc ∙ occ-append o (take (k - 1) (P key n)) (o ∷ []) ∙ (rw (same-yes o o refl) refl)
+  o-one : occurrences o (take k (P key n)) ≡ occurrences o (take (k - 1) (P key n)) + 1
+  o-one = ap (occurrences o) sample-snoc ∙ occurrences-append o (take (k - 1) (P key n)) (o ∷ []) ∙ (rw (same-yes o o refl) refl)
 
   before-others : without o (take k (P key n)) ≡ take (k - 1) (P key n)
   before-others =
@@ -132,13 +132,13 @@ module _ (key k n v : ℕ) (k0 : 0 < k) (kn : k ≤ n) (x : Next key k n v) (v-s
   pub next-exchange : Exchanges (take k (P key n)) (take k (P key (suc v))) v (kth key k n)
   unfolding kth
   next-exchange =
-      let w : occ o (take k (P key n)) ≡ 1 = omega (arith, o-one, once o n n-small) in
+      let w : occurrences o (take k (P key n)) ≡ 1 = omega (arith, o-one, once o n n-small) in
       let on : o < n = by-below o n (λ h. h) (λ h. absurd (omega (arith, sample-none o n n-small h))) in
-      let a : occ o (without v (take k (P key (suc v)))) ≡ occ o (take (k - 1) (P key n)) = ap (occ o) after-others in
+      let a : occurrences o (without v (take k (P key (suc v)))) ≡ occurrences o (take (k - 1) (P key n)) = ap (occurrences o) after-others in
       record {
         v-new = sample-none v n n-small (x .large);
         v-in = omega (arith, once v (suc v) v-small, x .enters);
         o-was = w;
-        o-out = omega (arith, o-one, occ-keep-yes (other v) o (take k (P key (suc v))) (other-yes v o (omega (arith, x .large))));
+        o-out = omega (arith, o-one, occurrences-keep-yes (other v) o (take k (P key (suc v))) (other-yes v o (omega (arith, x .large))));
         others = after-others ∙ sym before-others;
       }

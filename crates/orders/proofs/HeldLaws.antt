@@ -9,11 +9,11 @@ use Prim.Native.Nat.{ℕ, zero, suc, _+_, _-_, _^_, _≤_, _<_}
 use native.Mathlib.Nat.{add-suc, add-zero}
 use native.Mathlib.Omega.{arith}
 use lib.ListN.{length, take, getD}
-use Rattle.lists.specs.Lists.{keep, below, notBelow, occ, countBelow, smallest, upTo, replace, standing, last}
+use Rattle.lists.specs.Lists.{keep, below, notBelow, occurrences, countBelow, smallest, upTo, replace, standing, last}
 use Rattle.lists.proofs.Tests.{below-yes, below-no, below→lt, by-below}
 use Rattle.lists.proofs.Keeping.{all-keep, below-below}
-use Rattle.lists.proofs.Counting.{occ-count, order-none, order-occ}
-use Rattle.lists.proofs.Prefixes.{occ-upTo, occ-upTo-first, keep-upTo, upTo-count, upTo-long, upTo-all, upTo-ends, ends-end}
+use Rattle.lists.proofs.Counting.{occurrences-count, order-none, order-occurrences}
+use Rattle.lists.proofs.Prefixes.{occurrences-upTo, occurrences-upTo-first, keep-upTo, upTo-count, upTo-long, upTo-all, upTo-ends, ends-end}
 use Rattle.lists.proofs.Replacing.{replace-all, upTo-replace}
 use Rattle.lists.proofs.Exchanges.{Least, least-exists, next-part, new-first}
 use Rattle.orders.specs.Orders.{P}
@@ -32,7 +32,7 @@ inputsAt key i k = length (upTo (below (4 ^ i)) k (outputs key i))
 
 -- v is among the first k of P(v + 1)
 abbrev pub Enters : ℕ → ℕ → ℕ → Type 0
-Enters key k v = 0 < occ v (take k (P key (suc v)))
+Enters key k v = 0 < occurrences v (take k (P key (suc v)))
 
 -- v is the smallest such number from n up
 pub record Next (key k n v : ℕ) : Type 0 where
@@ -76,11 +76,11 @@ module _ (key m k n : ℕ) (m-le : m ≤ 15) (k-le : k ≤ n) (n-le : n ≤ 4 ^ 
   -- with k listed numbers only, none below 4^m comes in
   pub none-enters : length (heldAt key m k n) ≡ k → (u : ℕ) → n ≤ u → u < 4 ^ m → Enters key k u → ⊥
   none-enters e u a b c =
-      let s : occ u (take k (P key (suc u))) ≡ occ u (take k (keep (below (suc u)) (place key m))) = ap (λ (r : List ℕ). occ u (take k r)) (place-at (suc u) b) in
+      let s : occurrences u (take k (P key (suc u))) ≡ occurrences u (take k (keep (below (suc u)) (place key m))) = ap (λ (r : List ℕ). occurrences u (take k r)) (place-at (suc u) b) in
       omega (
         arith,
-        occ-upTo-first (below n) (below (suc u)) (below-below {n = n} {m = suc u} (omega arith)) u k (place key m),
-        occ-count u n a (heldAt key m k n),
+        occurrences-upTo-first (below n) (below (suc u)) (below-below {n = n} {m = suc u} (omega arith)) u k (place key m),
+        occurrences-count u n a (heldAt key m k n),
         ap length (all-keep (below n) (heldAt key m k n) (upTo-all (below n) k (place key m) enough e)),
       )
 
@@ -105,13 +105,13 @@ module _ (key m k n : ℕ) (m-le : m ≤ 15) (k-le : suc k ≤ n) (n-le : n ≤ 
   many : suc k ≤ countBelow n (place key m)
   many = enough key m (suc k) n m-le k-le n-le
 
-  once : occ v (heldAt key m (suc k) n) ≡ 1
-  once = omega (arith, occ-upTo (below n) v (suc k) (place key m), order-occ (place-order key m) v, w .listed)
+  once : occurrences v (heldAt key m (suc k) n) ≡ 1
+  once = omega (arith, occurrences-upTo (below n) v (suc k) (place key m), order-occurrences (place-order key m) v, w .listed)
 
   small-v : v < 4 ^ m
-  small-v = by-below v (4 ^ m) (λ h. h) (λ h. absurd (omega (arith, order-none (place-order key m) v h, occ-upTo (below n) v (suc k) (place key m), once)))
+  small-v = by-below v (4 ^ m) (λ h. h) (λ h. absurd (omega (arith, order-none (place-order key m) v h, occurrences-upTo (below n) v (suc k) (place key m), once)))
 
-  new : (u : ℕ) → 0 < occ u (heldAt key m (suc k) n) → below (suc v) u ≡ true → below n u ≡ false → u ≡ v
+  new : (u : ℕ) → 0 < occurrences u (heldAt key m (suc k) n) → below (suc v) u ≡ true → below n u ≡ false → u ≡ v
   new u a q p =
       by-below u n
       (λ h. absurd (true≢false (sym (below-yes u n h) ∙ p)))
@@ -122,16 +122,16 @@ module _ (key m k n : ℕ) (m-le : m ≤ 15) (k-le : suc k ≤ n) (n-le : n ≤ 
       next-part (below n) k (place key m) many (below (suc v)) (below-below (omega (arith, w .large))) v
       (below-no v n (w .large)) (below-yes v (suc v) (omega arith)) once new
 
-  comes-first : 0 < occ v (take (suc k) (keep (below (suc v)) (place key m)))
+  comes-first : 0 < occurrences v (take (suc k) (keep (below (suc v)) (place key m)))
   comes-first =
       new-first (below n) k (place key m) many (below (suc v)) (below-below (omega (arith, w .large))) v
       (below-no v n (w .large)) (below-yes v (suc v) (omega arith)) once new
 
   no-other : (u : ℕ) → n ≤ u → u < v → Enters key (suc k) u → ⊥
   no-other u a b c =
-      let s : occ u (take (suc k) (P key (suc u))) ≡ occ u (take (suc k) (keep (below (suc u)) (place key m))) =
-      ap (λ (r : List ℕ). occ u (take (suc k) r)) (place-at key m (suc k) n m-le k-le n-le (suc u) (omega (arith, small-v))) in
-      omega (arith, w .least u (omega (arith, occ-upTo-first (below n) (below (suc u)) (below-below {n = n} {m = suc u} (omega arith)) u (suc k) (place key m))) a)
+      let s : occurrences u (take (suc k) (P key (suc u))) ≡ occurrences u (take (suc k) (keep (below (suc u)) (place key m))) =
+      ap (λ (r : List ℕ). occurrences u (take (suc k) r)) (place-at key m (suc k) n m-le k-le n-le (suc u) (omega (arith, small-v))) in
+      omega (arith, w .least u (omega (arith, occurrences-upTo-first (below n) (below (suc u)) (below-below {n = n} {m = suc u} (omega arith)) u (suc k) (place key m))) a)
 
   comes-in : Comes key m (suc k) n l v
   comes-in =
@@ -140,7 +140,7 @@ module _ (key m k n : ℕ) (m-le : m ≤ 15) (k-le : suc k ≤ n) (n-le : n ≤ 
       record {
         next = record {
           large = w .large;
-          enters = subst (λ (r : List ℕ). 0 < occ v (take (suc k) r)) (sym (place-at key m (suc k) n m-le k-le n-le (suc v) small-v)) comes-first;
+          enters = subst (λ (r : List ℕ). 0 < occurrences v (take (suc k) r)) (sym (place-at key m (suc k) n m-le k-le n-le (suc v) small-v)) comes-first;
           first = no-other;
         };
         small = small-v;

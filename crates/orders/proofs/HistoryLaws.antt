@@ -16,8 +16,8 @@ use Rattle.lists.proofs.Tolds.{not-said, said-same}
 use Rattle.orders.specs.declared.consistent_reservoir.ConsistentReservoir.{ConsistentReservoir}
 use Rattle.orders.specs.Orders.{P}
 use Rattle.orders.specs.Reservoirs.{grown, held}
-use Rattle.orders.specs.ReservoirCalls.{keyOf, jOf, listed, sample, fitting, AfterOpen, afterOpen, reservoirOf, openCall, After, after, refused, admitCall, raiseTo, growLayerCall}
-use Rattle.orders.specs.Histories.{Call, admit, growLayer, Tank, tank, stepBy, afterAll}
+use Rattle.orders.specs.ReservoirCalls.{keyOf, jOf, listed, sample, fitting, AfterOpen, afterOpen, reservoirOf, openCall, After, after, refused, admitCall, growTo, growLayerCall}
+use Rattle.orders.specs.Histories.{Call, admit, growLayer, ReservoirState, stateAfter, stepBy, afterAll}
 use Rattle.orders.proofs.LogLaws.{pow-up}
 use Rattle.orders.proofs.ReservoirLaws.{Kept, fitting-kept, sample-is, written-kept, Opens, open-kept}
 use Rattle.orders.proofs.AdmissionLaws.{Short, Admits, admit-kept, grown-held}
@@ -35,7 +35,7 @@ pub record Grows (r : ConsistentReservoir) (a : After (Unit {0})) : Type 0 where
 
 module _ (r : ConsistentReservoir) (l : List ℕ) (s : Kept r l) where
   raise : r .used ≤ r .k → (jOf r ≡ 14 → ⊥) → length (grown (keyOf r) (jOf r + 1) (r .k) (listed r l)) ≤ length l → Grows r (growLayerCall r l)
-  unfolding growLayerCall raiseTo
+  unfolding growLayerCall growTo
   raise full low fits =
       let xs : List ℕ = grown (keyOf r) (jOf r + 1) (r .k) (listed r l) in
       let j1 : jOf r + 1 ≤ 14 = omega (arith, s .j-le) in
@@ -53,15 +53,15 @@ module _ (r : ConsistentReservoir) (l : List ℕ) (s : Kept r l) where
       })
 
   seven : r .k < r .used → growLayerCall r l ≡ refused 7 r l
-  unfolding growLayerCall raiseTo
+  unfolding growLayerCall growTo
   seven h = rw (fitting-kept r l s, lt-ltb (r .k) (r .used) h)
 
   eight : r .used ≤ r .k → eqb (jOf r) 14 ≡ true → growLayerCall r l ≡ refused 8 r l
-  unfolding growLayerCall raiseTo
+  unfolding growLayerCall growTo
   eight h y = rw (fitting-kept r l s, le-ltb (r .k) (r .used) h, y)
 
   four : r .used ≤ r .k → eqb (jOf r) 14 ≡ false → length l < length (grown (keyOf r) (jOf r + 1) (r .k) (listed r l)) → growLayerCall r l ≡ refused 4 r l
-  unfolding growLayerCall raiseTo
+  unfolding growLayerCall growTo
   four h m t = rw (fitting-kept r l s, le-ltb (r .k) (r .used) h, m, lt-ltb (length l) _ t)
 
   -- a refusal changes nothing; else it grows
@@ -78,24 +78,24 @@ module _ (r : ConsistentReservoir) (l : List ℕ) (s : Kept r l) where
 -- ---- any list of calls
 
 -- a record and its list, reached under a key with k
-pub record Reached (key k : ℕ) (t : Tank) : Type 0 where
+pub record Reached (key k : ℕ) (t : ReservoirState) : Type 0 where
   pub key-is : keyOf (t .reservoir) ≡ key
   pub k-is : t .reservoir .k ≡ k
   pub kept : Kept (t .reservoir) (t .list)
 
-pub step-reached : (key k : ℕ) (c : Call) (t : Tank) → Reached key k t → Reached key k (stepBy c t)
+pub step-reached : (key k : ℕ) (c : Call) (t : ReservoirState) → Reached key k t → Reached key k (stepBy c t)
 step-reached key k admit t s =
     ⊎-elim
-    (λ (h : Short (t .reservoir) (t .list) (admitCall (t .reservoir) (t .list))). subst (λ (a : After _). Reached key k (tank a)) (sym (h .is-refused)) s)
+    (λ (h : Short (t .reservoir) (t .list) (admitCall (t .reservoir) (t .list))). subst (λ (a : After _). Reached key k (stateAfter a)) (sym (h .is-refused)) s)
     (λ (h : Admits (t .reservoir) (admitCall (t .reservoir) (t .list))). record { key-is = h .key-is ∙ s .key-is; k-is = h .k-is ∙ s .k-is; kept = h .kept })
     (admit-kept (t .reservoir) (t .list) (s .kept))
 step-reached key k growLayer t s =
     ⊎-elim
-    (λ (h : (c : ℕ) × (growLayerCall (t .reservoir) (t .list) ≡ refused c (t .reservoir) (t .list))). subst (λ (a : After _). Reached key k (tank a)) (sym (h .1)) s)
+    (λ (h : (c : ℕ) × (growLayerCall (t .reservoir) (t .list) ≡ refused c (t .reservoir) (t .list))). subst (λ (a : After _). Reached key k (stateAfter a)) (sym (h .1)) s)
     (λ (h : Grows (t .reservoir) (growLayerCall (t .reservoir) (t .list))). record { key-is = h .key-is ∙ s .key-is; k-is = h .k-is ∙ s .k-is; kept = h .kept })
     (grow-layer-kept (t .reservoir) (t .list) (s .kept))
 
-all-reached : (key k : ℕ) (cs : List Call) (t : Tank) → Reached key k t → Reached key k (afterAll cs t)
+all-reached : (key k : ℕ) (cs : List Call) (t : ReservoirState) → Reached key k t → Reached key k (afterAll cs t)
 all-reached key k [] t s = s
 all-reached key k (c ∷ cs) t s = all-reached key k cs (stepBy c t) (step-reached key k c t s)
 
@@ -110,7 +110,7 @@ accepted k n key l r l′ =
 
 -- from an accepted open, after any list of calls
 module _ (k n key : ℕ) (l : List ℕ) (r : ConsistentReservoir) (l′ : List ℕ) (is-open : openCall k n key l ≡ afterOpen (says r) l′) (cs : List Call) where
-  abbrev now : Tank
+  abbrev now : ReservoirState
   now = afterAll cs (record { reservoir = r; list = l′ })
 
   pub reached : Reached key k now

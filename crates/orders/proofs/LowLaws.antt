@@ -7,10 +7,10 @@ use mathlib.Core.Option.{Option, none, some, Option·getD}
 use Prim.Native.Nat.{ℕ, _^_, _<_, _≤_, min}
 use native.Mathlib.Omega.{arith}
 use lib.ListN.{length}
-use Rattle.lists.specs.Lists.{keep, below, notBelow, occ, countBelow, every, smallest, join}
+use Rattle.lists.specs.Lists.{keep, below, notBelow, occurrences, countBelow, every, smallest, join}
 use Rattle.lists.proofs.Tests.{below→lt, by-below, not-below-yes, not-below-no}
 use Rattle.lists.proofs.Keeping.{All, all-every}
-use Rattle.lists.proofs.Members.{occ-cons}
+use Rattle.lists.proofs.Members.{occurrences-cons}
 use Rattle.lists.proofs.Exchanges.{Least, least-exists}
 use Rattle.orders.specs.Reservoirs.{incoming}
 use Rattle.orders.specs.InnerPasses.{least, lowOf}
@@ -27,9 +27,9 @@ least-smallest d (x ∷ xs) = go (smallest xs) (least-smallest d xs)
     go none e = ap (min x) e
     go (some y) e = omega (arith, e)
 
-all-occ : (p : ℕ → Bool) (v : ℕ) (xs : List ℕ) → All p xs → 0 < occ v xs → p v ≡ true
-all-occ p v [] a h = absurd (omega arith)
-all-occ p v (x ∷ xs) a h = occ-cons v x xs h (λ e. ap p e ∙ a .0) (λ t. all-occ p v xs (a .1) t)
+all-occurrences : (p : ℕ → Bool) (v : ℕ) (xs : List ℕ) → All p xs → 0 < occurrences v xs → p v ≡ true
+all-occurrences p v [] a h = absurd (omega arith)
+all-occurrences p v (x ∷ xs) a h = occurrences-cons v x xs h (λ e. ap p e ∙ a .0) (λ t. all-occurrences p v xs (a .1) t)
 
 -- where not all are below n, and all are below some b up to 2^30
 pub low-incoming : (n b : ℕ) (xs : List ℕ) → countBelow n xs < length xs → b ≤ 4 ^ 15 → every (below b) xs ≡ true → (lowOf n xs ≡ incoming n xs) × (incoming n xs < b)
@@ -38,7 +38,7 @@ low-incoming n b xs h small a =
     let w : (v : ℕ) × (smallest (keep (notBelow n) xs) ≡ some v) × Least n xs v = least-exists n xs h in
     let v : ℕ = w .0 in
     let e : smallest (keep (notBelow n) xs) ≡ some v = w .1 in
-    let l : v < b = below→lt (all-occ (below b) v xs (all-every (below b) xs a) (w .2 .listed)) in
+    let l : v < b = below→lt (all-occurrences (below b) v xs (all-every (below b) xs a) (w .2 .listed)) in
     let m : min v (4 ^ 15) ≡ v = omega arith in
     let f : least (4 ^ 15) (keep (notBelow n) xs) ≡ v = least-smallest (4 ^ 15) (keep (notBelow n) xs) ∙ ap (atMost (4 ^ 15)) e ∙ m in
     let g : Option·getD (smallest (keep (notBelow n) xs)) 0 ≡ v = ap (λ (o : Option ℕ). Option·getD o 0) e in

@@ -15,7 +15,7 @@ use Rattle.lists.specs.Lists.{standing, written}
 use Rattle.lists.proofs.Standing.{standing-le}
 use Rattle.orders.specs.declared.consistent_reservoir.ConsistentReservoir.{ConsistentReservoir}
 use Rattle.orders.specs.Reservoirs.{counts, opening, incoming, grown, wider}
-use Rattle.orders.specs.ReservoirCalls.{keyOf, jOf, listed, fitting, AfterOpen, openCall, After, exchangeBy, exchange, admitAt, admitCall, raiseTo, growLayerCall}
+use Rattle.orders.specs.ReservoirCalls.{keyOf, jOf, listed, fitting, AfterOpen, openCall, After, exchangeBy, exchange, admitAt, admitCall, growTo, growLayerCall}
 use Rattle.orders.specs.InnerPasses.{lowOf}
 use Rattle.orders.proofs.AdmitLaws.{here-done, admit-longer}
 
@@ -68,7 +68,7 @@ admit-spares r l =
     refl
 
 pub grow-spares : (r : ConsistentReservoir) (l : List ℕ) → Spares l (growLayerCall r l)
-unfolding growLayerCall raiseTo
+unfolding growLayerCall growTo
 grow-spares r l =
     let xs : List ℕ = grown (keyOf r) (jOf r + 1) (r .k) (listed r l) in
     either (Spares l) (fitting r l) _ _

@@ -8,7 +8,7 @@ use Prim.Native.Nat.{ℕ, zero, suc, _+_, _-_, _^_, _≤_, _<_}
 use native.Mathlib.Nat.{add-suc, add-zero, le-refl}
 use native.Mathlib.Omega.{arith}
 use lib.ListN.{length, length-replicate, getD-replicate}
-use Rattle.lists.specs.Lists.{keep, below, same, occ, countBelow, replace}
+use Rattle.lists.specs.Lists.{keep, below, same, occurrences, countBelow, replace}
 use Rattle.lists.proofs.Tests.{below-yes, by-test, by-below}
 use Rattle.lists.proofs.Keeping.{all-keep, keep-keep, below-below}
 use Rattle.lists.proofs.Counting.{Order, order-of, order-all, order-once, order-none, order-part}
@@ -88,10 +88,10 @@ module _ (key : ℕ) where
   pub whole-order : (j : ℕ) → j ≤ 14 → Order (4 ^ suc j) (whole key j)
   whole-order j h = subst (λ (xs : List ℕ). Order (4 ^ suc j) xs) (sym (whole-place j h)) (place-order (suc j))
 
-  pub whole-once : (j v : ℕ) → j ≤ 14 → v < 4 ^ suc j → occ v (whole key j) ≡ 1
+  pub whole-once : (j v : ℕ) → j ≤ 14 → v < 4 ^ suc j → occurrences v (whole key j) ≡ 1
   whole-once j v h l = order-once (whole-order j h) v l
 
-  pub whole-none : (j v : ℕ) → j ≤ 14 → 4 ^ suc j ≤ v → occ v (whole key j) ≡ 0
+  pub whole-none : (j v : ℕ) → j ≤ 14 → 4 ^ suc j ≤ v → occurrences v (whole key j) ≡ 0
   whole-none j v h l = order-none (whole-order j h) v l
 
   -- its numbers below 4^j are the whole of the layer below
@@ -129,8 +129,8 @@ module _ (key : ℕ) where
   pub P-length : (n : ℕ) → n ≤ 2 ^ 30 → length (P key n) ≡ n
   P-length n b = P-order n b .size
 
-  pub P-once : (n v : ℕ) → n ≤ 2 ^ 30 → v < n → occ v (P key n) ≡ 1
+  pub P-once : (n v : ℕ) → n ≤ 2 ^ 30 → v < n → occurrences v (P key n) ≡ 1
   P-once n v b h = order-once (P-order n b) v h
 
-  pub P-none : (n v : ℕ) → n ≤ 2 ^ 30 → n ≤ v → occ v (P key n) ≡ 0
+  pub P-none : (n v : ℕ) → n ≤ 2 ^ 30 → n ≤ v → occurrences v (P key n) ≡ 0
   P-none n v b h = order-none (P-order n b) v h

@@ -11,18 +11,18 @@ pub data Call : Type 0 where
   growLayer : Call
 
 -- a record and its list
-pub record Tank : Type 0 where
+pub record ReservoirState : Type 0 where
   pub reservoir : ConsistentReservoir
   pub list : List ℕ
 
-abbrev pub tank : {A : Type 0} → After A → Tank
-tank a = record { reservoir = a .reservoir; list = a .list }
+abbrev pub stateAfter : {A : Type 0} → After A → ReservoirState
+stateAfter a = record { reservoir = a .reservoir; list = a .list }
 
-abbrev pub stepBy : Call → Tank → Tank
-stepBy admit t = tank (admitCall (t .reservoir) (t .list))
-stepBy growLayer t = tank (growLayerCall (t .reservoir) (t .list))
+abbrev pub stepBy : Call → ReservoirState → ReservoirState
+stepBy admit t = stateAfter (admitCall (t .reservoir) (t .list))
+stepBy growLayer t = stateAfter (growLayerCall (t .reservoir) (t .list))
 
 -- the record and the list after a list of calls, refused ones too
-abbrev pub afterAll : List Call → Tank → Tank
+abbrev pub afterAll : List Call → ReservoirState → ReservoirState
 afterAll [] t = t
 afterAll (c ∷ cs) t = afterAll cs (stepBy c t)

@@ -15,7 +15,7 @@ use Rattle.orders.specs.declared.consistent_reservoir.Opened.the-variant
 use Rattle.orders.specs.declared.consistent_reservoir.Exchange.{Exchange}
 use Rattle.orders.specs.declared.consistent_reservoir.Exchange.the-variants.{InOut, Nothing, Refused}
 use Rattle.orders.specs.declared.consistent_reservoir.Admitted.{Admitted}
-use Rattle.orders.specs.declared.consistent_reservoir.Raised.{Raised}
+use Rattle.orders.specs.declared.consistent_reservoir.LayerGrown.{LayerGrown}
 use Rattle.orders.specs.Outcomes.{toldOutcome}
 use Rattle.orders.specs.Orders.{layerOf}
 use Rattle.orders.specs.Reservoirs.{counts, opening, incoming, grown, wider}
@@ -120,12 +120,12 @@ admitCall r l =
     (admitAt r l (wider (keyOf r) (r .k) (jOf r))))
     (refused 12 r l)
 
-abbrev pub raised : Raised → List ℕ → After (Unit {0})
-raised a l = after (toldOutcome (a .outcome)) (a .reservoir) l
+abbrev pub layerGrown : LayerGrown → List ℕ → After (Unit {0})
+layerGrown a l = after (toldOutcome (a .outcome)) (a .reservoir) l
 
 -- to layer j+1, where xs is listed then
-unfoldable pub raiseTo : ConsistentReservoir → List ℕ → List ℕ → After (Unit {0})
-raiseTo r xs l =
+unfoldable pub growTo : ConsistentReservoir → List ℕ → List ℕ → After (Unit {0})
+growTo r xs l =
     cond (ltb (length l) (length xs)) (refused 4 r l)
     (after (says tt) (reservoirOf (keyOf r) (r .k) (r .n) (jOf r + 1) (length xs)) (written xs l))
 
@@ -136,7 +136,7 @@ growLayerCall r l =
     cond (fitting r l)
     (cond (ltb (r .k) (r .used)) (refused 7 r l)
     (cond (eqb (jOf r) 14) (refused 8 r l)
-    (raiseTo r (grown (keyOf r) (jOf r + 1) (r .k) (listed r l)) l)))
+    (growTo r (grown (keyOf r) (jOf r + 1) (r .k) (listed r l)) l)))
     (refused 12 r l)
 
 -- ---- the sample

@@ -6,7 +6,7 @@ ghost use mathlib.Core.Bool.{true};
 ghost use lib.ListN.{length};
 ghost use Rattle.orders.specs.Outcomes.{toldOutcome};
 ghost use Rattle.orders.specs.Reservoirs.{grown};
-ghost use Rattle.orders.specs.ReservoirCalls.{keyOf, jOf, listed, fitting, afterOpen, toldOpened, openCall, admitted, exchange, admitCall, raised, raiseTo, growLayerCall, afterSample, sampleCall};
+ghost use Rattle.orders.specs.ReservoirCalls.{keyOf, jOf, listed, fitting, afterOpen, toldOpened, openCall, admitted, exchange, admitCall, layerGrown, growTo, growLayerCall, afterSample, sampleCall};
 ghost use Rattle.orders.specs.InnerPasses.{wideOf, lowOf, refusal, exchanged, shifted};
 use crate::Outcome;
 use crate::checks;
@@ -43,7 +43,7 @@ pub struct Admitted {
 }
 
 // The reservoir after the growth of a layer, and whether it was refused.
-pub struct Raised {
+pub struct LayerGrown {
     pub reservoir: ConsistentReservoir,
     pub outcome: Outcome,
 }
@@ -127,19 +127,19 @@ fn admit_above(r: ConsistentReservoir, w: Wide, list: &mut [u32]) -> Admitted
 
 // ---- grow_layer
 
-fn refuse_growth(r: ConsistentReservoir, why: u32) -> Raised
+fn refuse_growth(r: ConsistentReservoir, why: u32) -> LayerGrown
     ensures { λ a. ⌜ a ≡ record { reservoir = r; outcome = Outcome.Refused why } ⌝ }
 {
-    Raised {
+    LayerGrown {
         reservoir: r,
         outcome: Outcome::Refused(why),
     }
 }
 
 // The list of the next layer.
-fn raise(r: ConsistentReservoir, list: &mut [u32]) -> Raised
+fn raise(r: ConsistentReservoir, list: &mut [u32]) -> LayerGrown
     requires { ⌜ (fitting r (now list) ≡ true) × (r .used ≤ r .k) × (jOf r < 14) ⌝ }
-    ensures { λ a. ⌜ raised a (now (list .exit)) ≡ raiseTo r (grown (keyOf r) (jOf r + 1) (r .k) (listed r (now (list .entry)))) (now (list .entry)) ⌝ }
+    ensures { λ a. ⌜ layerGrown a (now (list .exit)) ≡ growTo r (grown (keyOf r) (jOf r + 1) (r .k) (listed r (now (list .entry)))) (now (list .entry)) ⌝ }
 {
     let i = r.j_max + 1;
     let k = r.k;
@@ -150,7 +150,7 @@ fn raise(r: ConsistentReservoir, list: &mut [u32]) -> Raised
         return refuse_growth(r, 4);
     }
     fills::cover(i, key, inputs, k, list);
-    Raised {
+    LayerGrown {
         reservoir: ConsistentReservoir {
             master_key: key,
             k,
@@ -229,8 +229,8 @@ impl ConsistentReservoir {
     }
 
     // The step to the next layer: refusals 12, 7, 8, 4.
-    pub fn grow_layer(self, list: &mut [u32]) -> Raised
-        ensures { λ a. ⌜ raised a (now (list .exit)) ≡ growLayerCall self (now (list .entry)) ⌝ }
+    pub fn grow_layer(self, list: &mut [u32]) -> LayerGrown
+        ensures { λ a. ⌜ layerGrown a (now (list .exit)) ≡ growLayerCall self (now (list .entry)) ⌝ }
     {
         let c = checks::checked(self, list);
         if !c.fits {

@@ -14,7 +14,7 @@ use Rattle.hashes.specs.Calls.{prevNumber}
 use Rattle.orders.specs.Orders.{log2, layerOf, output, counted, zeroTop, whole, P}
 use Rattle.orders.specs.Reservoirs.{opening, incoming, upToZeros, grown, wider, due}
 use Rattle.orders.specs.ReservoirCalls as Reservoir
-use Rattle.choosers.specs.Choosers.{g, top, S, Q}
+use Rattle.choosers.specs.Choosers.{g, largestG, S, Q}
 use Rattle.choosers.specs.Slots.{active, deleted, actives, vacant, holder, stateOf, slotAmong, slotOf}
 use Rattle.choosers.specs.SlotCalls as Slots
 use Rattle.orders.specs.declared.consistent_reservoir.Exchange.the-variants as exchange
@@ -86,7 +86,7 @@ reached = record { key = key; k = 2; n = 3; start = begin; opens = opens; calls 
 
 -- its plan, over the first two places of lists of three: location 9 to terminal 0, 13 to terminal 1
 pub planned : planCall end (5 ∷ 5 ∷ 5 ∷ []) (6 ∷ 6 ∷ 6 ∷ []) 3 ≡ afterPlan (says tt) (9 ∷ 13 ∷ 5 ∷ []) (0 ∷ 1 ∷ 6 ∷ [])
-unfolding planCall terminalOf fitting Reservoir.fitting Reservoir.sample Slots.fitting every last written below actives active holder stateOf Q lacked has same S top g prevNumber prev hashes buckets bucket isSet bucketHashes bucketDraws draws draw feed numbers laterNumbers mix wrappingMul
+unfolding planCall terminalOf fitting Reservoir.fitting Reservoir.sample Slots.fitting every last written below actives active holder stateOf Q lacked has same S largestG g prevNumber prev hashes buckets bucket isSet bucketHashes bucketDraws draws draw feed numbers laterNumbers mix wrappingMul
 planned = refl
 
 -- the plan of the round as opened: 11
@@ -101,5 +101,5 @@ unfolding fedAll accept freeSlot due has same other P whole layerOf log2 below o
 fed-all = refl
 
 pub ledger-plan : ledgerPlan (ledger key 2 14 (1 ∷ 0 ∷ []) 2) ≡ says (sheet 9 (some 0) ∷ sheet 13 (some 1) ∷ [])
-unfolding planFrom P whole layerOf log2 output counted zeroTop topBits layer start rounds round roundFunction nextKey over rotateRight below slotOf slotAmong stateOf Q lacked has same S top g prevNumber prev hashes buckets bucket isSet bucketHashes bucketDraws draws draw feed numbers laterNumbers mix wrappingMul
+unfolding planFrom P whole layerOf log2 output counted zeroTop topBits layer start rounds round roundFunction nextKey over rotateRight below slotOf slotAmong stateOf Q lacked has same S largestG g prevNumber prev hashes buckets bucket isSet bucketHashes bucketDraws draws draw feed numbers laterNumbers mix wrappingMul
 ledger-plan = refl

@@ -51,9 +51,9 @@ planCall s ls ts places =
     (afterPlan (refusal 12) ls ts)
 
 -- "the scratch is free after an accepted .. plan, unchanged after a refused one"; it keeps its length
-abbrev pub Spared : Outcome → List ℕ → List ℕ → Type 0
-Spared outcome.Done before now = length now ≡ length before
-Spared (outcome.Refused w) before now = now ≡ before
+abbrev pub ScratchAfter : Outcome → List ℕ → List ℕ → Type 0
+ScratchAfter outcome.Done before now = length now ≡ length before
+ScratchAfter (outcome.Refused w) before now = now ≡ before
 
 -- ---- the plan as it stands in memory
 

@@ -8,7 +8,7 @@ ghost use Rattle.lists.specs.Lists.{every, written};
 ghost use Rattle.orders.specs.ReservoirCalls.{toldExchange};
 ghost use Rattle.choosers.specs.SlotCalls.{toldSlot};
 ghost use Rattle.rounds.specs.Rounds.{state};
-ghost use Rattle.rounds.specs.Plans.{toldOutcome, Spared};
+ghost use Rattle.rounds.specs.Plans.{toldOutcome, ScratchAfter};
 ghost use Rattle.rounds.specs.Histories.{exchanged, slotSaid, nothingSaid, afterAll, allSaid};
 ghost use Rattle.rounds.specs.Replays.{known, callOf, coded, codedAll, afterReplay, runOf, replayCall, Replayed};
 ghost use Rattle.rounds.specs.InnerReplays.{wordsOf, placedAt, stepped, stepOf};
@@ -211,7 +211,7 @@ pub fn replay(
 ) -> Outcome
     ensures { λ o. ⌜ afterReplay (toldOutcome o) (now (list .exit)) (now (table .exit)) (now (answers .exit)) (now (locations .exit)) (now (terminals .exit)) ≡ replayCall key k n (now (calls .entry)) (now (list .entry)) (now (table .entry)) (now (answers .entry)) (now (locations .entry)) (now (terminals .entry)) (length (now (scratch .entry))) ⌝ }
     ensures { λ o. ⌜ Replayed o key k n (now (calls .entry)) (length (now (table .entry))) (length (now (scratch .entry))) (now (answers .exit)) (now (locations .exit)) (now (terminals .exit)) ⌝ }
-    ensures { λ o. ⌜ Spared o (now (scratch .entry)) (now (scratch .exit)) ⌝ }
+    ensures { λ o. ⌜ ScratchAfter o (now (scratch .entry)) (now (scratch .exit)) ⌝ }
 {
     if !all_known(calls) {
         return Outcome::Refused(12);

@@ -7,7 +7,7 @@ ghost use Rattle.lists.specs.Lists.{written};
 ghost use Rattle.orders.specs.ReservoirCalls.{sample};
 ghost use Rattle.choosers.specs.SlotCalls.{toldTruth};
 ghost use Rattle.rounds.specs.Rounds.{fitting, afterOpen, toldOpened, openCall, state, admission, admitCall, joining, joinCall, withdrawal, withdrawCall, reservoirOf, mapOf};
-ghost use Rattle.rounds.specs.Plans.{afterPlan, toldOutcome, planCall, Spared};
+ghost use Rattle.rounds.specs.Plans.{afterPlan, toldOutcome, planCall, ScratchAfter};
 ghost use Rattle.rounds.specs.InnerRounds.{begun, withReservoir, withMap, idleOf, dealtTo};
 use choosers::node_map;
 use choosers::node_map::ConsistentNodeMap;
@@ -267,7 +267,7 @@ pub fn plan(
     scratch: &mut [u64],
 ) -> Outcome
     ensures { λ o. ⌜ afterPlan (toldOutcome o) (now (locations .exit)) (now (terminals .exit)) ≡ planCall (state r (now (list .entry)) (now (table .entry))) (now (locations .entry)) (now (terminals .entry)) (length (now (scratch .entry))) ⌝ }
-    ensures { λ o. ⌜ Spared o (now (scratch .entry)) (now (scratch .exit)) ⌝ }
+    ensures { λ o. ⌜ ScratchAfter o (now (scratch .entry)) (now (scratch .exit)) ⌝ }
 {
     match is_idle(r, list, table) {
         Truth::Refused(w) => Outcome::Refused(w),

@@ -6,14 +6,14 @@ use native.Mathlib.Omega.{arith}
 use borrow.Author.Needs.{needs}
 use lib.ListN.{length, length-set}
 use lib.Seq.{drop-set-lt}
-use Rattle.choosers.specs.Choosers.{top}
+use Rattle.choosers.specs.Choosers.{largestG}
 use Rattle.choosers.specs.InnerChoosers.{Owns, SameFrom}
 use Rattle.choosers.proofs.ChooseLaws.{top-none, top-more, owns-more}
 use Rattle.choosers.proofs.samples.first_samples.Statement.{statement}
 use Rattle.choosers.proofs.samples.first_samples.Tie as tie
 
 abbrev Inv-loop : tie.InvT-loop
-Inv-loop state n k list₀ high₀ i₀ list high i = (i ≤ k) × (length list ≡ length list₀) × (high ≡ top state i n) × Owns state list i n × SameFrom k list₀ list
+Inv-loop state n k list₀ high₀ i₀ list high i = (i ≤ k) × (length list ≡ length list₀) × (high ≡ largestG state i n) × Owns state list i n × SameFrom k list₀ list
 
 abbrev μ-loop : tie.MeasureT-loop
 μ-loop state n k list₀ high₀ i₀ list high i = k - i

@@ -6,14 +6,14 @@ use native.Mathlib.Omega.{arith}
 use borrow.Author.Needs.{needs}
 use lib.ListN.{length, length-set}
 use lib.Seq.{drop-set-lt}
-use Rattle.choosers.specs.Choosers.{top}
+use Rattle.choosers.specs.Choosers.{largestG}
 use Rattle.choosers.specs.InnerChoosers.{Owns, OwnOr, SameFrom}
 use Rattle.choosers.proofs.ChooseLaws.{top-none, top-more, owns-more, own-or-set}
 use Rattle.choosers.proofs.samples.next_samples.Statement.{statement}
 use Rattle.choosers.proofs.samples.next_samples.Tie as tie
 
 abbrev Inv-loop : tie.InvT-loop
-Inv-loop state m k list₀ high₀ i₀ list high i = (i ≤ k) × (length list ≡ length list₀) × (high ≡ top state i m) × Owns state list i m × SameFrom k list₀ list × OwnOr state list k m
+Inv-loop state m k list₀ high₀ i₀ list high i = (i ≤ k) × (length list ≡ length list₀) × (high ≡ largestG state i m) × Owns state list i m × SameFrom k list₀ list × OwnOr state list k m
 
 abbrev μ-loop : tie.MeasureT-loop
 μ-loop state m k list₀ high₀ i₀ list high i = k - i

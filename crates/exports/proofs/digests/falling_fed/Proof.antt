@@ -3,7 +3,7 @@
 use mathlib.Core.Bool.{true, false}
 use mathlib.Core.Path.{_≡_, refl, _∙_}
 use borrow.Author.Needs.{needs}
-use Rattle.hashes.specs.Walks.{fell}
+use Rattle.hashes.specs.Walks.{fallingStep}
 use Rattle.hashes.proofs.WalkLaws.{Falls, belowOf, fall-turn}
 use Rattle.exports.specs.Coded.{fedAll}
 use Rattle.exports.proofs.DigestLaws.{left, calls, fed, Fed}
@@ -21,7 +21,7 @@ turn : (c : tie.After-walk Inv-loop μ-loop) → Fed fall-turn (c .before .befor
 turn c =
     let step = c .before .before .before .next in
     let l = c .before .before .before .before .before .loop in
-    fed fall-turn (l .d) (c .before .before .fed-with .result) (c .before .is-hash .result) (l .walk) (fell (step .result)) (l .inv .0) (step .ensures) (c .before .before .fed-with .ensures) (c .before .is-hash .ensures)
+    fed fall-turn (l .d) (c .before .before .fed-with .result) (c .before .is-hash .result) (l .walk) (fallingStep (step .result)) (l .inv .0) (step .ensures) (c .before .before .fed-with .ensures) (c .before .is-hash .ensures)
 
 loop-holds : tie.Need-loop-holds Inv-loop μ-loop
 loop-holds c = (search needs, refl)

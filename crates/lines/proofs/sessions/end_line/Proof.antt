@@ -4,8 +4,8 @@ use mathlib.Core.Path.{sym, ap}
 use native.Mathlib.Omega.{arith}
 use borrow.Author.Needs.{needs}
 use lib.Seq.{length-take-le}
-use Rattle.lines.specs.Sessions.{hear}
-use Rattle.lines.proofs.FeedLaws.{heard-same, heard-bare}
+use Rattle.lines.specs.Sessions.{respond}
+use Rattle.lines.proofs.FeedLaws.{response-same, response-bare}
 use Rattle.lines.proofs.sessions.end_line.Statement.{statement}
 use Rattle.lines.proofs.sessions.end_line.Tie as tie
 
@@ -42,7 +42,7 @@ returns c =
     let at = c .before .before .before .before .before .before .before .before .before .before .before .before in
     let bare = at .before .before .before .before .before .before .before in
     let a = start bare .args in
-    heard-same (heard-bare _ (a .line .now) (a .bytes .now) _ (bare .if1 .taken)) (at .answer .ensures)
+    response-same (response-bare _ (a .line .now) (a .bytes .now) _ (bare .if1 .taken)) (at .answer .ensures)
 
 keep-requires : tie.Need-keep-requires
 keep-requires c κs = search needs
@@ -80,7 +80,7 @@ same-length-13 c = search needs
 returns-2 : tie.Need-returns-2
 returns-2 c =
     let at = c .before .before .before .before .before .before .before .before .before .before .before .before in
-    heard-same (ap (hear _) (kept at .keep .ensures .1 .holds)) (at .answer2 .ensures)
+    response-same (ap (respond _) (kept at .keep .ensures .1 .holds)) (at .answer2 .ensures)
 
 pub end-line-spec : {M : Type 1} → statement M
 end-line-spec =

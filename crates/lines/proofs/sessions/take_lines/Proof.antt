@@ -7,7 +7,7 @@ use native.Mathlib.Omega.{arith}
 use borrow.Author.Needs.{needs}
 use lib.ListN.{length, take, drop, length-take, length-drop}
 use lib.Seq.{take-all}
-use Rattle.lines.specs.Streams.{stand, worldOf}
+use Rattle.lines.specs.Streams.{progress, worldOf}
 use Rattle.lines.proofs.FeedLaws.{Going, going-start, going-more, took-all, took-full}
 use Rattle.lines.proofs.sessions.take_lines.Statement.{statement}
 use Rattle.lines.proofs.sessions.take_lines.Tie as tie
@@ -16,7 +16,7 @@ abbrev Inv-loop : tie.InvT-loop
 Inv-loop piece line₀ list₀ table₀ locations₀ terminals₀ scratch₀ out₀ most s₀ taken₀ put₀ line list table locations terminals scratch out s taken put =
     (length line ≡ length line₀) × (length list ≡ length list₀) × (length table ≡ length table₀) × (length locations ≡ length locations₀)
     × (length terminals ≡ length terminals₀) × (length scratch ≡ length scratch₀) × (length out ≡ length out₀)
-    × Going most (stand (worldOf s₀ list₀ table₀ locations₀ terminals₀ scratch₀) (take (s₀ .held) line₀) []) piece out₀ (worldOf s list table locations terminals scratch) line out (s .held) taken put
+    × Going most (progress (worldOf s₀ list₀ table₀ locations₀ terminals₀ scratch₀) (take (s₀ .held) line₀) []) piece out₀ (worldOf s list table locations terminals scratch) line out (s .held) taken put
 
 abbrev μ-loop : tie.MeasureT-loop
 μ-loop piece line₀ list₀ table₀ locations₀ terminals₀ scratch₀ out₀ most s₀ taken₀ put₀ line list table locations terminals scratch out s taken put = length piece - taken

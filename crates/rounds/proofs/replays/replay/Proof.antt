@@ -10,7 +10,7 @@ use lib.ListN.{length}
 use Rattle.lists.specs.Lists.{every}
 use Rattle.choosers.specs.declared.node_map.Outcome.{Outcome}
 use Rattle.choosers.specs.declared.node_map.Outcome.the-variants as outcome
-use Rattle.rounds.specs.Plans.{toldOutcome, Spared}
+use Rattle.rounds.specs.Plans.{toldOutcome, ScratchAfter}
 use Rattle.rounds.specs.Replays.{known, AfterReplay, afterReplay, replayCall, Replayed}
 use Rattle.rounds.proofs.ReplayTurns.{replay-unknown, replay-short, replay-refused, replay-run}
 use Rattle.rounds.proofs.ReplayLaws.{replay-ledger}
@@ -25,10 +25,10 @@ abbrev due : tie.Start → AfterReplay
 due s = replayCall (s .args .key) (s .args .k) (s .args .n) (s .args .calls .now) (s .args .list .now) (s .args .table .now) (s .args .answers .now) (s .args .locations .now) (s .args .terminals .now) (length (s .args .scratch .now))
 
 -- the three clauses: the second follows from the first
-clauses : (s : tie.Start) (o : Outcome) (l t ws ls ts scratch : List ℕ) → afterReplay (toldOutcome o) l t ws ls ts ≡ due s → Spared o (s .args .scratch .now) scratch
+clauses : (s : tie.Start) (o : Outcome) (l t ws ls ts scratch : List ℕ) → afterReplay (toldOutcome o) l t ws ls ts ≡ due s → ScratchAfter o (s .args .scratch .now) scratch
     → (afterReplay (toldOutcome o) l t ws ls ts ≡ due s)
     × (Replayed o (s .args .key) (s .args .k) (s .args .n) (s .args .calls .now) (length (s .args .table .now)) (length (s .args .scratch .now)) ws ls ts
-    × Spared o (s .args .scratch .now) scratch)
+    × ScratchAfter o (s .args .scratch .now) scratch)
 clauses s o l t ws ls ts scratch e spared = (e, (replay-ledger _ _ _ _ (s .args .list .now) (s .args .table .now) (s .args .answers .now) (s .args .locations .now) (s .args .terminals .now) _ o l t ws ls ts e, spared))
 
 all : (c : tie.Else1) → every known (start (c .before) .args .calls .now) ≡ true
