@@ -1,9 +1,12 @@
 //! Prints answers of the original for stated inputs, a line each: a letter, then numbers in hexadecimal.
 //!
 //! oracle SET: the answers of that set. oracle expected: what the replay of all sets prints. oracle lines FOLDER: writes the
-//! stored inputs of the line program to a folder, and what it must print for each.
+//! stored inputs of the line program to a folder, and what it must print for each. oracle differences: holds the original to what
+//! docs/DIFFERENCES.md says of it, status 1 where that is wrong.
 
 mod chooser_sets;
+mod difference_claims;
+mod differences;
 mod handmade;
 mod handmade_choosers;
 mod handmade_sets;
@@ -186,6 +189,9 @@ fn main() {
         }
         return;
     }
+    if wanted == "differences" {
+        std::process::exit(if differences::hold() { 0 } else { 1 });
+    }
     if wanted == "lines" {
         let folder = std::env::args().nth(2).unwrap_or_default();
         line_sets::write(Path::new(&folder)).unwrap_or_else(|e| panic!("{folder}: {e}"));
@@ -194,7 +200,7 @@ fn main() {
     let Some((name, from, lines)) = SETS.iter().find(|(name, _, _)| *name == wanted) else {
         let names: Vec<_> = SETS.iter().map(|(name, _, _)| *name).collect();
         eprintln!(
-            "usage: oracle {} | expected | lines FOLDER",
+            "usage: oracle {} | expected | lines FOLDER | differences",
             names.join(" | ")
         );
         std::process::exit(2);
