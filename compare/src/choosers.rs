@@ -194,10 +194,18 @@ pub fn refusals(draws: &mut Draws) -> Option<String> {
             proved::chooser_shrink_n(record, list).err(),
             proved::chooser_fits(record, list).err(),
         ];
+        let short = |k| match n {
+            n if n > 1 << 62 => 1,
+            n if k > n => 3,
+            _ => 4,
+        };
         differ(
             format_args!("state {state:#x} n {n} k {k:?}, {words} words"),
             (said.map(|c| c.map(|c| c.0)), ours.memory()),
-            ([Some(4); 6], theirs.memory()),
+            (
+                [short(0), short(k.unwrap_or(0)), 4, 4, 4, 4].map(Some),
+                theirs.memory(),
+            ),
         )
     })
 }

@@ -106,12 +106,13 @@ pub fn refusals(draws: &mut Draws) -> Option<String> {
     let said = [
         proved::order_new(high, key, &mut ours).err(),
         proved::order_digest(high, key, draws.below(4) as u32).err(),
+        proved::order_new(high, key, &mut ours[..words]).err(),
         proved::order_new(n, key, &mut ours[..words]).err(),
         proved::order_next(&mut ours[..words]).err(),
     ];
     differ(
         format_args!("n {n} or {high} key {key:#x}, {words} words"),
         (said, ours),
-        ([1, 1, 4, 4].map(|c| Some(Refused(c))), [UNTOUCHED; 20]),
+        ([1, 1, 1, 4, 4].map(|c| Some(Refused(c))), [UNTOUCHED; 20]),
     )
 }

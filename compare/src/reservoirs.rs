@@ -184,7 +184,11 @@ pub fn refusals(draws: &mut Draws) -> Option<String> {
         differ(
             format_args!("key {key:#x} k {k} n {n}, {words} words"),
             (said.map(|c| c.map(|c| c.0)), out, ours.memory()),
-            ([Some(4); 5], [UNTOUCHED; 4], theirs.memory()),
+            (
+                [oracle::short_open(k, n), 4, 4, 4, 4].map(Some),
+                [UNTOUCHED; 4],
+                theirs.memory(),
+            ),
         )
     })
 }

@@ -270,7 +270,7 @@ pub fn handmade(draws: &mut Draws) -> Option<String> {
     })
 }
 
-/// A record shorter than its words: every call is 4, and leaves what it is lent.
+/// A record shorter than its words: every call is 4, an open 1, 2 or 3 where it is one of these, and leaves what it is lent.
 pub fn refusals(draws: &mut Draws) -> Option<String> {
     let (key, k, n) = any_open(draws);
     let mut theirs = Round::lent(draws.below(80) as usize, any_table(draws));
@@ -292,6 +292,10 @@ pub fn refusals(draws: &mut Draws) -> Option<String> {
     differ(
         format_args!("key {key:#x} k {k} n {n}, {words} words"),
         (said.map(|c| c.map(|c| c.0)), plan, ours.memory()),
-        ([Some(4); 6], [[UNTOUCHED; 4]; 2], theirs.memory()),
+        (
+            [oracle::short_open(k, n), 4, 4, 4, 4, 4].map(Some),
+            [[UNTOUCHED; 4]; 2],
+            theirs.memory(),
+        ),
     )
 }

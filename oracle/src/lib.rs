@@ -31,7 +31,7 @@ pub use line_faults::{filled, long_lines, malformed_lines};
 pub use line_runs::{any_lines, open_line};
 pub use lines::{answer_lines, LINE_PLACES, LINE_SLOTS, LONGEST_LINE};
 pub use orders::{order_digest, Order};
-pub use replays::{spelt, RoundCall};
+pub use replays::{short_open, spelt, RoundCall};
 pub use reservoirs::{Reservoir, Told, UNTOUCHED};
 pub use rounds::Round;
 pub use slots::{location_state, Slots, UNTOUCHED_BYTE};

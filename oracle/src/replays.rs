@@ -41,6 +41,16 @@ pub fn spelt(said: Told<Vec<u32>>) -> [u32; 4] {
     }
 }
 
+/// What an open is refused for which some memory is too short. Document 01: "Order: 12, 1, 2, 3, .. 4".
+pub fn short_open(k: u32, n: u32) -> u32 {
+    match (k, n) {
+        (_, n) if n > 1 << 30 => 1,
+        (0, _) => 2,
+        (k, n) if k > n => 3,
+        _ => 4,
+    }
+}
+
 impl Round {
     /// The values that a call says.
     pub fn call(&mut self, call: RoundCall) -> Told<Vec<u32>> {
@@ -53,7 +63,7 @@ impl Round {
         }
     }
 
-    /// An open, calls, and the plan after them: 12 for a number that is no call, 4 for answers that do not fit, and open's.
+    /// An open, calls, and the plan after them: 12 for a number that is no call, then open's, 4 also for answers that do not fit.
     #[allow(clippy::too_many_arguments)]
     pub fn replay(
         &mut self,
@@ -67,7 +77,7 @@ impl Round {
         let known: Option<Vec<_>> = calls.iter().map(|&number| RoundCall::of(number)).collect();
         let known = known.ok_or(12u32)?;
         if answers.len() < 4 * calls.len() + 4 {
-            return Err(4);
+            return Err(short_open(k, n));
         }
         self.open(key, k, n)?;
         let mut said: Vec<_> = known.into_iter().map(|call| self.call(call)).collect();

@@ -9,7 +9,7 @@ use Rattle.lists.specs.Lists.{zeroTo, last, lacked}
 use Rattle.hashes.specs.Hashes.{feed}
 use Rattle.hashes.specs.Calls.{prevNumber}
 
--- "g(i, n) = i + prev of n−i under state mix(s xor i)."
+-- "g(i, n) = i + prev of n−i under state mix(s xor i)." It is asked only for i below n, where prev is a number.
 unfoldable pub g : ℕ → ℕ → ℕ → ℕ
 g s i n = i + prevNumber (feed s i) (n - i)
 

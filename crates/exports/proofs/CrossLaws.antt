@@ -16,16 +16,16 @@ use Rattle.orders.specs.declared.consistent_reservoir.Exchange.the-variants as 
 use Rattle.orders.specs.declared.consistent_reservoir.Admitted.{Admitted}
 use Rattle.orders.specs.declared.consistent_reservoir.LayerGrown.{LayerGrown}
 use Rattle.orders.specs.Outcomes.{toldOutcome}
-use Rattle.orders.specs.ReservoirCalls.{fitting, afterOpen, toldOpened, openCall, admitted, admitCall, layerGrown, growLayerCall, afterSample, sampleCall}
+use Rattle.orders.specs.ReservoirCalls.{fitting, afterOpen, toldOpened, openCall, shortRefusal, admitted, admitCall, layerGrown, growLayerCall, afterSample, sampleCall}
 use Rattle.exports.specs.Coded.{truth, codedDone}
 use Rattle.exports.specs.Crossings.{crossed, crossedOne}
 use Rattle.exports.specs.Reservoirs.{wordsOf, recordOf, newCrossed, nextCrossed, growCrossed, sampleCrossed, fitsCrossed}
 
 -- ---- new
 
-pub new-short : (k n key : ℕ) (l ws : List ℕ) (r : ℕ) → r ≡ 2 ^ 63 + 4 → length ws < 6 → crossed r ws l ≡ newCrossed k n key l ws
+pub new-short : (k n key : ℕ) (l ws : List ℕ) (r w : ℕ) → r ≡ 2 ^ 63 + w → w ≡ shortRefusal k n → length ws < 6 → crossed r ws l ≡ newCrossed k n key l ws
 unfolding newCrossed
-new-short k n key l ws r e h = rw (e, lt-ltb (length ws) 6 h)
+new-short k n key l ws r w e s h = rw (e, s, lt-ltb (length ws) 6 h)
 
 module _ (k n key : ℕ) (l ws : List ℕ) (o : Opened) (l′ : List ℕ) (e : afterOpen (toldOpened o) l′ ≡ openCall k n key l) (h : 6 ≤ length ws) where
   pub new-made : (r : ConsistentReservoir) → o ≡ opened.Made r → (ws′ : List ℕ) → ws′ ≡ written (wordsOf r) ws → crossed 0 ws′ l′ ≡ newCrossed k n key l ws

@@ -15,15 +15,15 @@ use Rattle.orders.specs.Orders.{noneCounted, P}
 use Rattle.orders.specs.OrderCalls.{orderOf, Start, started, newCall, stepped, nextCall}
 use Rattle.orders.proofs.OrderWalks.{Going, restOf, going-new, rest-new}
 use Rattle.exports.specs.Coded.{codedNumber, fedAll, digest}
-use Rattle.exports.specs.Crossings.{crossedOne}
+use Rattle.exports.specs.Crossings.{crossedOne, shortOf}
 use Rattle.exports.specs.Orders.{orderWords, orderAs, newOrderCrossed, nextOrderCrossed, orderDigest}
 use Rattle.exports.specs.InnerDigests.{fedWith}
 
 -- ---- new
 
-pub new-short : (n key : ℕ) (ws : List ℕ) (r : ℕ) → r ≡ 2 ^ 63 + 4 → length ws < 18 → crossedOne r ws ≡ newOrderCrossed n key ws
+pub new-short : (n key : ℕ) (ws : List ℕ) (r w : ℕ) → r ≡ 2 ^ 63 + w → w ≡ shortOf (2 ^ 30) 0 n → length ws < 18 → crossedOne r ws ≡ newOrderCrossed n key ws
 unfolding newOrderCrossed
-new-short n key ws r e h = rw (e, lt-ltb (length ws) 18 h)
+new-short n key ws r w e s h = rw (e, s, lt-ltb (length ws) 18 h)
 
 module _ (n key : ℕ) (ws : List ℕ) (s : Started) (e : started s ≡ newCall n key) (h : 18 ≤ length ws) where
   pub new-refused : (c x : ℕ) → s .outcome ≡ outcome.Refused c → x ≡ 2 ^ 63 + c → crossedOne x ws ≡ newOrderCrossed n key ws

@@ -1,14 +1,14 @@
 -- How a chooser crosses to C and Rust: its record as three words, its answers as one number (Coded.antt).
 -- Assumes nothing.
 use mathlib.Core.List.{List, [], _∷_}
-use Prim.Native.Nat.{ℕ}
+use Prim.Native.Nat.{ℕ, _^_}
 use lib.ListN.{getD}
 use Rattle.lists.specs.Told.{Told, refusal, says}
 use Rattle.lists.specs.Lists.{written}
 use Rattle.choosers.specs.declared.choose_k.ConsistentChooseKHasher.{ConsistentChooseKHasher}
 use Rattle.choosers.specs.ChooserCalls.{chooserOf, After, fitting, newCall, newWithKCall, growCall, nextCall, shrinkCall}
 use Rattle.exports.specs.Coded.{truth, codedDone, codedNumber, codedHash}
-use Rattle.exports.specs.Crossings.{Crossed, crossed, CrossedOne, crossedOne, enough, wordsAfter}
+use Rattle.exports.specs.Crossings.{Crossed, crossed, CrossedOne, crossedOne, enough, enoughElse, shortOf, wordsAfter}
 
 -- the state, n and k
 abbrev pub chooserWords : ConsistentChooseKHasher → List ℕ
@@ -27,12 +27,12 @@ wordsMade ws (refusal w) = ws
 unfoldable pub newCrossed : ℕ → ℕ → List ℕ → CrossedOne
 newCrossed s n ws =
     let t = newCall s n in
-    enough 3 ws (λ a. crossedOne a ws) (crossedOne (codedDone t) (wordsMade ws t))
+    enoughElse (shortOf (2 ^ 62) 0 n) 3 ws (λ a. crossedOne a ws) (crossedOne (codedDone t) (wordsMade ws t))
 
 unfoldable pub newWithKCrossed : ℕ → ℕ → ℕ → List ℕ → List ℕ → Crossed
 newWithKCrossed s n k l ws =
     let m = newWithKCall s n k l in
-    enough 3 ws (λ a. crossed a ws l) (crossed (codedDone (m .told)) (wordsMade ws (m .told)) (m .list))
+    enoughElse (shortOf (2 ^ 62) k n) 3 ws (λ a. crossed a ws l) (crossed (codedDone (m .told)) (wordsMade ws (m .told)) (m .list))
 
 -- ---- grow_k, next and shrink_n
 

@@ -12,7 +12,7 @@ use Rattle.orders.specs.declared.consistent_permutation.ConsistentPermutation.{
 use Rattle.orders.specs.Orders.{P}
 use Rattle.orders.specs.OrderCalls.{orderOf, keyOf, newCall, nextCall}
 use Rattle.exports.specs.Coded.{codedHash, digest}
-use Rattle.exports.specs.Crossings.{CrossedOne, crossedOne, enough}
+use Rattle.exports.specs.Crossings.{CrossedOne, crossedOne, enough, enoughElse, shortOf}
 
 -- the key's low and high 32 bits, n, and the fifteen counters
 abbrev pub orderWords : ConsistentPermutation → List ℕ
@@ -29,7 +29,7 @@ startedAs ws (refusal c) o = crossedOne (2 ^ 63 + c) ws
 unfoldable pub newOrderCrossed : ℕ → ℕ → List ℕ → CrossedOne
 newOrderCrossed n key ws =
     let s = newCall n key in
-    enough 18 ws (λ a. crossedOne a ws) (startedAs ws (s .told) (s .order))
+    enoughElse (shortOf (2 ^ 30) 0 n) 18 ws (λ a. crossedOne a ws) (startedAs ws (s .told) (s .order))
 
 abbrev pub steppedAs : List ℕ → Told (Option ℕ) → ConsistentPermutation → CrossedOne
 steppedAs ws (says o) w = crossedOne (codedHash (says o)) (written (orderWords w) ws)

@@ -7,9 +7,9 @@ use lib.ListN.{getD}
 use Rattle.lists.specs.Told.{Told, refusal, says}
 use Rattle.lists.specs.Lists.{written}
 use Rattle.orders.specs.declared.consistent_reservoir.ConsistentReservoir.{ConsistentReservoir}
-use Rattle.orders.specs.ReservoirCalls.{keyOf, jOf, reservoirOf, fitting, openCall, admitCall, growLayerCall, sampleCall}
+use Rattle.orders.specs.ReservoirCalls.{keyOf, jOf, reservoirOf, fitting, openCall, shortRefusal, admitCall, growLayerCall, sampleCall}
 use Rattle.exports.specs.Coded.{truth, codedDone}
-use Rattle.exports.specs.Crossings.{Crossed, crossed, CrossedOne, crossedOne, enough, wordsAfter}
+use Rattle.exports.specs.Crossings.{Crossed, crossed, CrossedOne, crossedOne, enough, enoughElse, wordsAfter}
 
 -- the key's low and high 32 bits, k, n, the layer and the used length
 abbrev pub wordsOf : ConsistentReservoir → List ℕ
@@ -32,7 +32,9 @@ openedAs ws (says r) l = crossed 0 (written (wordsOf r) ws) l
 openedAs ws (refusal c) l = crossed (2 ^ 63 + c) ws l
 
 unfoldable pub newCrossed : ℕ → ℕ → ℕ → List ℕ → List ℕ → Crossed
-newCrossed k n key l ws = let o = openCall k n key l in enough 6 ws (λ a. crossed a ws l) (openedAs ws (o .told) (o .list))
+newCrossed k n key l ws =
+    let o = openCall k n key l in
+    enoughElse (shortRefusal k n) 6 ws (λ a. crossed a ws l) (openedAs ws (o .told) (o .list))
 
 unfoldable pub nextCrossed : List ℕ → List ℕ → Crossed
 nextCrossed ws l =

@@ -6,12 +6,13 @@ use Prim.Native.Nat.{ℕ, _+_, _*_, _/_, _%_, _^_}
 use lib.ListN.{getD}
 use Rattle.lists.specs.Told.{Told, refusal, says}
 use Rattle.lists.specs.Lists.{written}
+use Rattle.orders.specs.ReservoirCalls.{shortRefusal}
 use Rattle.rounds.specs.declared.round.Round.{Round}
 use Rattle.rounds.specs.Rounds.{state, fitting, openCall, After, admitCall, joinCall, withdrawCall}
 use Rattle.rounds.specs.Plans.{planCall}
 use Rattle.rounds.specs.Replays.{callOf, replayCall, ByLedger}
 use Rattle.exports.specs.Coded.{truth, codedDone, codedNumber}
-use Rattle.exports.specs.Crossings.{Crossed, crossed, enough, wordsAfter}
+use Rattle.exports.specs.Crossings.{Crossed, crossed, enough, enoughElse, wordsAfter}
 use Rattle.exports.specs.Reservoirs.{codedExchange}
 
 -- the key's low and high 32 bits, k, n, the layer, the used length and the slot count
@@ -31,7 +32,7 @@ wordsOpened ws (refusal w) = ws
 unfoldable pub openCrossed : ℕ → ℕ → ℕ → List ℕ → List ℕ → Crossed
 openCrossed key k n l ws =
     let o = openCall key k n l in
-    enough 7 ws (λ a. crossed a ws l) (crossed (codedDone (o .told)) (wordsOpened ws (o .told)) (o .list))
+    enoughElse (shortRefusal k n) 7 ws (λ a. crossed a ws l) (crossed (codedDone (o .told)) (wordsOpened ws (o .told)) (o .list))
 
 -- ---- admit, join and withdraw
 

@@ -89,7 +89,8 @@ pub extern "C" fn perillajamb_chooser_new(state: u64, n: u64, words: &mut [u64])
     ensures { λ r. ⌜ crossedOne r (now (words .exit)) ≡ newCrossed state n (now (words .entry)) ⌝ }
 {
     if words.len() < 3 {
-        return parts::refused(4);
+        let short = parts::short_of(0x4000_0000_0000_0000, 0, n);
+        return parts::refused(short);
     }
     let made = ConsistentChooseKHasher::new(state, n);
     store_made(made, words)
@@ -107,7 +108,8 @@ pub extern "C" fn perillajamb_chooser_new_with_k(
     ensures { λ r. ⌜ crossed r (now (words .exit)) (now (list .exit)) ≡ newWithKCrossed state n k (now (list .entry)) (now (words .entry)) ⌝ }
 {
     if words.len() < 3 {
-        return parts::refused(4);
+        let short = parts::short_of(0x4000_0000_0000_0000, k, n);
+        return parts::refused(short);
     }
     let made = ConsistentChooseKHasher::new_with_k(state, n, k, list);
     store_made(made, words)

@@ -80,7 +80,8 @@ pub extern "C" fn perillajamb_order_new(n: u32, key: u64, ws: &mut [u32]) -> u64
     ensures { λ r. ⌜ crossedOne r (now (ws .exit)) ≡ newOrderCrossed n key (now (ws .entry)) ⌝ }
 {
     if ws.len() < 18 {
-        return parts::refused(4);
+        let short = parts::short_of(0x4000_0000, 0, n as u64);
+        return parts::refused(short);
     }
     let s = ConsistentPermutation::new(n, key);
     let e = s.outcome;

@@ -60,7 +60,8 @@ pub extern "C" fn perillajamb_reservoir_new(
     ensures { λ r. ⌜ crossed r (now (words .exit)) (now (list .exit)) ≡ newCrossed k n key (now (list .entry)) (now (words .entry)) ⌝ }
 {
     if words.len() < 6 {
-        return parts::refused(4);
+        let short = ConsistentReservoir::short_refusal(k, n);
+        return parts::refused(short);
     }
     match ConsistentReservoir::new(k, n, key, list) {
         Opened::Made(r) => {

@@ -15,6 +15,7 @@ ghost use Rattle.exports.specs.Rounds.{roundWords, roundAs, wordsOpened,
 use crate::parts;
 use choosers::node_map::Outcome;
 use choosers::node_map::Slot;
+use orders::consistent_reservoir::ConsistentReservoir;
 use orders::consistent_reservoir::Exchange;
 use rounds::replays;
 use rounds::round;
@@ -135,7 +136,8 @@ pub extern "C" fn perillajamb_round_open(
     ensures { λ r. ⌜ crossed r (now (words .exit)) (now (list .exit)) ≡ openCrossed key k n (now (list .entry)) (now (words .entry)) ⌝ }
 {
     if words.len() < 7 {
-        return parts::refused(4);
+        let short = ConsistentReservoir::short_refusal(k, n);
+        return parts::refused(short);
     }
     let o = round::open(key, k, n, list);
     store_opened(o, words)

@@ -50,16 +50,21 @@ pub record Admits (r : ConsistentReservoir) (a : After (Option (ℕ × ℕ))) : 
   pub n-is : a .reservoir .n ≡ reachedBy (r .n) (due (keyOf r) (r .k) (r .n))
   pub kept : Kept (a .reservoir) (a .list)
 
--- refusal 4: a number v is due, and the list is shorter than what would stand after it came in, at the layer it ends at
+-- the layer that an admit ends at, none where there is no such layer
+abbrev pub endsAt : ConsistentReservoir → Option ℕ
+endsAt r = cond (ltb (r .k) (r .used)) (some (jOf r)) (wider (keyOf r) (r .k) (jOf r))
+
+-- refusal 4: a number v is due, and the list is shorter than what would stand after it came in, at the layer that the admit ends at
 pub record Short (r : ConsistentReservoir) (l : List ℕ) (a : After (Option (ℕ × ℕ))) : Type 0 where
   pub v : ℕ
   pub j : ℕ
   pub is-due : due (keyOf r) (r .k) (r .n) ≡ some v
   pub j-le : j ≤ 14
+  pub ends-at : endsAt r ≡ some j
   pub short : length l < length (held (keyOf r) j (r .k) (suc v))
   pub is-refused : a ≡ refused 4 r l
 
-module _ (r : ConsistentReservoir) (l : List ℕ) (k0 : 0 < r .k) (k-le : r .k ≤ r .n) (i : ℕ) (n-le : r .n ≤ 4 ^ suc i) (i-le : i ≤ 14) where
+module _ (r : ConsistentReservoir) (l : List ℕ) (k0 : 0 < r .k) (k-le : r .k ≤ r .n) (i : ℕ) (n-le : r .n ≤ 4 ^ suc i) (i-le : i ≤ 14) (at : endsAt r ≡ some i) where
   -- an exchange by v, after which u places stand
   module _ (xs : List ℕ) (v : ℕ) (least : smallest (keep (notBelow (r .n)) xs) ≡ some v) (c : Comes (keyOf r) (suc i) (r .k) (r .n) xs v) where
     by-v : exchange r i xs l ≡ exchangeBy r i xs l v (standing (below (suc v)) (r .k) xs (length xs - 1))
@@ -79,6 +84,7 @@ module _ (r : ConsistentReservoir) (l : List ℕ) (k0 : 0 < r .k) (k-le : r .k �
       j = i;
       is-due = v-due;
       j-le = i-le;
+      ends-at = at;
       short = omega (arith, end-length, ap length (c .list), ap length (held-place (keyOf r) i (r .k) (suc v) i-le));
       is-refused = by-v ∙ rw (lt-ltb (length l) _ h);
     }
@@ -191,7 +197,7 @@ module _ (r : ConsistentReservoir) (l : List ℕ) (s : Kept r l) (full : r .used
         replace-length (below (4 ^ i)) (upTo (below (4 ^ i)) (r .k) (outputs (keyOf r) i)) (listed r l),
       ) in
       subst (λ (o : Option ℕ). Short r l (admitAt r l o) ⊎ Admits r (admitAt r l o)) (sym f)
-      (exchange-kept r l (s .some-k) (s .k-le) i (omega (arith, up i a)) (omega arith) (grown (keyOf r) i (r .k) (listed r l)) g long))
+      (exchange-kept r l (s .some-k) (s .k-le) i (omega (arith, up i a)) (omega arith) (rw (le-ltb (r .k) (r .used) full) f) (grown (keyOf r) i (r .k) (listed r l)) g long))
       (λ f z. subst (λ (o : Option ℕ). Short r l (admitAt r l o) ⊎ Admits r (admitAt r l o)) (sym f) (inr (none-kept z)))
 
 -- ---- admit
@@ -212,7 +218,7 @@ admit-kept r l s =
     (λ h. subst (λ (b : Bool). Short r l (cond b (exchange r (jOf r) (listed r l) l) (admitAt r l (wider (keyOf r) (r .k) (jOf r))))
     ⊎ Admits r (cond b (exchange r (jOf r) (listed r l) l) (admitAt r l (wider (keyOf r) (r .k) (jOf r)))))
     (sym (lt-ltb (r .k) (r .used) h))
-    (exchange-kept r l (s .some-k) (s .k-le) (jOf r) (s .n-le) (s .j-le) (listed r l) (list-at r l s) (omega (arith, used-is r l s))))
+    (exchange-kept r l (s .some-k) (s .k-le) (jOf r) (s .n-le) (s .j-le) (rw (lt-ltb (r .k) (r .used) h)) (listed r l) (list-at r l s) (omega (arith, used-is r l s))))
     (λ h. subst (λ (b : Bool). Short r l (cond b (exchange r (jOf r) (listed r l) l) (admitAt r l (wider (keyOf r) (r .k) (jOf r))))
     ⊎ Admits r (cond b (exchange r (jOf r) (listed r l) l) (admitAt r l (wider (keyOf r) (r .k) (jOf r)))))
     (sym (le-ltb (r .k) (r .used) h)) (grow-kept r l s h)))

@@ -69,6 +69,10 @@ openCall k n key l =
     (cond (ltb (length l) (length xs)) (afterOpen (refusal 4) l)
     (afterOpen (says (reservoirOf key k n (layerOf n) (length xs))) (written xs l)))))
 
+-- "Order: .. 1, 2, 3, .. 4": the refusal of an open with k of n for which some memory is too short, whatever it is
+unfoldable pub shortRefusal : ℕ → ℕ → ℕ
+shortRefusal k n = cond (ltb (2 ^ 30) n) 1 (cond (eqb k 0) 2 (cond (ltb n k) 3 4))
+
 -- ---- admit and grow_layer
 
 -- what a call on a record says, and the record and the list after it

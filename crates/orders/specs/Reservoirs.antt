@@ -27,9 +27,13 @@ incoming n xs = Option·getD (smallest (keep (notBelow n) xs)) 0
 abbrev pub outputs : ℕ → ℕ → List ℕ
 outputs key i = map (layer i key) (zeroTo (size i))
 
--- "Li(k) is the number of inputs of layer i, from 0, up to and with its k-th output with top bits 00.": their outputs
+-- the outputs of layer i up to and with its k-th with top bits 00
 unfoldable pub upToZeros : ℕ → ℕ → ℕ → List ℕ
 upToZeros key i k = upTo (zeroTop i) k (outputs key i)
+
+-- "Li(k) is the number of inputs of layer i, from 0, up to and with its k-th output with top bits 00."
+abbrev pub L : ℕ → ℕ → ℕ → ℕ
+L key i k = length (upToZeros key i k)
 
 -- "its Li(k) outputs become the list, the t-th such 00 output replaced by the t-th old entry"
 unfoldable pub grown : ℕ → ℕ → ℕ → List ℕ → List ℕ
@@ -37,7 +41,7 @@ grown key i k olds = replace (zeroTop i) (upToZeros key i k) olds
 
 -- "layers j+1, j+2, .. are tried. .. The first i up to 14 with Li(k) above k becomes the layer"
 unfoldable pub wider : ℕ → ℕ → ℕ → Option ℕ
-wider key k j = firstFrom (λ i. ltb k (length (upToZeros key i k))) (suc j) (14 - j)
+wider key k j = firstFrom (λ i. ltb k (L key i k)) (suc j) (14 - j)
 
 -- ---- a record reached from open, by the orders alone
 

@@ -6,7 +6,7 @@ ghost use mathlib.Core.Bool.{true};
 ghost use lib.ListN.{length};
 ghost use Rattle.orders.specs.Outcomes.{toldOutcome};
 ghost use Rattle.orders.specs.Reservoirs.{grown};
-ghost use Rattle.orders.specs.ReservoirCalls.{keyOf, jOf, listed, fitting, afterOpen, toldOpened, openCall, admitted, exchange, admitCall, layerGrown, growTo, growLayerCall, afterSample, sampleCall};
+ghost use Rattle.orders.specs.ReservoirCalls.{keyOf, jOf, listed, fitting, afterOpen, toldOpened, openCall, shortRefusal, admitted, exchange, admitCall, layerGrown, growTo, growLayerCall, afterSample, sampleCall};
 ghost use Rattle.orders.specs.InnerPasses.{wideOf, lowOf, refusal, exchanged, shifted};
 use crate::Outcome;
 use crate::checks;
@@ -200,6 +200,22 @@ impl ConsistentReservoir {
             j_max: j,
             used,
         })
+    }
+
+    // The refusal of an open with k of n for which some memory is too short: 1, 2, 3, else 4.
+    pub fn short_refusal(k: u32, n: u32) -> u32
+        ensures { λ r. ⌜ r ≡ shortRefusal k n ⌝ }
+    {
+        if Self::N_LIMIT < n {
+            return 1;
+        }
+        if k == 0 {
+            return 2;
+        }
+        if n < k {
+            return 3;
+        }
+        4
     }
 
     // Whether the record fits its list: refusal 12 of the other calls.

@@ -15,6 +15,7 @@ use Rattle.lists.proofs.Tolds.{not-said}
 use Rattle.lists.proofs.Tests.{by-below, by-cond}
 use Rattle.lists.proofs.Writing.{length-written}
 use Rattle.orders.proofs.ReservoirLaws.{sample-length}
+use Rattle.orders.specs.ReservoirCalls.{shortRefusal}
 use Rattle.choosers.specs.declared.node_map.Outcome.{Outcome}
 use Rattle.choosers.specs.declared.node_map.Outcome.the-variants as outcome
 use Rattle.choosers.specs.SlotCalls as Slots
@@ -168,7 +169,7 @@ module _ (key k n : ℕ) (codes t ws ls ts : List ℕ) (places : ℕ) where
   replay-good l =
       by-cond Good (every known codes) _ _
       (λ each. by-cond Good (ltb (length ws) (4 * length codes + 4)) _ _
-      (λ short. refused-good 4 (afterReplay (refusal 4) l t ws ls ts) refl)
+      (λ short. refused-good (shortRefusal k n) (afterReplay (refusal (shortRefusal k n)) l t ws ls ts) refl)
       (λ long. opened-good (openCall key k n l) l refl))
       (λ unknown. refused-good 12 (afterReplay (refusal 12) l t ws ls ts) refl)
 

@@ -11,7 +11,7 @@ use lib.ListN.{length, take, drop, getD, set, length-append, length-map, drop-of
 use lib.Seq.{drop-cons, drop-append-add, drop-drop, sets-eq, take-at}
 use Rattle.lists.specs.Told.{Told, refusal, says, mapTold}
 use Rattle.lists.specs.Lists.{every, written}
-use Rattle.orders.specs.ReservoirCalls.{toldExchange}
+use Rattle.orders.specs.ReservoirCalls.{toldExchange, shortRefusal}
 use Rattle.choosers.specs.declared.node_map.Outcome.{Outcome}
 use Rattle.choosers.specs.SlotCalls.{toldSlot}
 use Rattle.rounds.specs.declared.replays.Answer.{Answer}
@@ -178,9 +178,9 @@ module _ (key k n : ℕ) (codes l t ws ls ts : List ℕ) (places : ℕ) where
   unfolding replayCall
   replay-unknown m = rw m
 
-  pub replay-short : every known codes ≡ true → length ws / 4 ≤ length codes → afterReplay (refusal 4) l t ws ls ts ≡ replayCall key k n codes l t ws ls ts places
+  pub replay-short : every known codes ≡ true → length ws / 4 ≤ length codes → (w : ℕ) → w ≡ shortRefusal k n → afterReplay (refusal w) l t ws ls ts ≡ replayCall key k n codes l t ws ls ts places
   unfolding replayCall
-  replay-short y m = rw (y, lt-ltb (length ws) (4 * length codes + 4) (omega arith))
+  replay-short y m w e = rw (y, lt-ltb (length ws) (4 * length codes + 4) (omega arith), e)
 
   -- what open said, and the list that it left
   module _ (y : every known codes ≡ true) (long : length codes < length ws / 4) (o : Opened) (l′ : List ℕ) (opens : afterOpen (toldOpened o) l′ ≡ openCall key k n l) where

@@ -9,6 +9,7 @@ use lib.Dec.{ltb, eqb}
 use lib.ListN.{length, getD, take, drop}
 use Rattle.lists.specs.Told.{Told, refusal, says, mapTold}
 use Rattle.lists.specs.Lists.{every, written}
+use Rattle.orders.specs.ReservoirCalls.{shortRefusal}
 use Rattle.choosers.specs.declared.node_map.Outcome.{Outcome}
 use Rattle.choosers.specs.declared.node_map.Outcome.the-variants as outcome
 use Rattle.rounds.specs.declared.round.Round.{Round}
@@ -73,13 +74,13 @@ abbrev pub openedRun : Told Round → List ℕ → List ℕ → List Call → Li
 openedRun (refusal w) l t xs ws ls ts places = afterReplay (refusal w) l t ws ls ts
 openedRun (says r) l t xs ws ls ts places = runOf (state r l t) xs ws ls ts places
 
--- 12: a number that is no call. 4: an answers' list with fewer than four places for each call and four for the plan. Then open's
--- refusals. From then on it is not refused.
+-- 12: a number that is no call. Then open's refusals, its 4 also for an answers' list with fewer than four places for each call and four
+-- for the plan. From then on it is not refused.
 unfoldable pub replayCall : ℕ → ℕ → ℕ → List ℕ → List ℕ → List ℕ → List ℕ → List ℕ → List ℕ → ℕ → AfterReplay
 replayCall key k n codes l t ws ls ts places =
     let o = openCall key k n l in
     cond (every known codes)
-    (cond (ltb (length ws) (4 * length codes + 4)) (afterReplay (refusal 4) l t ws ls ts)
+    (cond (ltb (length ws) (4 * length codes + 4)) (afterReplay (refusal (shortRefusal k n)) l t ws ls ts)
     (openedRun (o .told) (o .list) t (map callOf codes) ws ls ts places))
     (afterReplay (refusal 12) l t ws ls ts)
 

@@ -18,6 +18,7 @@ use crate::round::Opened;
 use crate::round::Round;
 use choosers::node_map::Outcome;
 use choosers::node_map::Slot;
+use orders::consistent_reservoir::ConsistentReservoir;
 use orders::consistent_reservoir::Exchange;
 
 // What a call says: the refusal's number or 0, how many values there are, and two places for them.
@@ -217,7 +218,8 @@ pub fn replay(
         return Outcome::Refused(12);
     }
     if answers.len() / 4 <= calls.len() {
-        return Outcome::Refused(4);
+        let number = ConsistentReservoir::short_refusal(k, n);
+        return Outcome::Refused(number);
     }
     match round::open(key, k, n, list) {
         Opened::Refused(w) => Outcome::Refused(w),

@@ -7,12 +7,15 @@ use Rattle.exports.proofs.ChooserCrossLaws.{new-crosses}
 use Rattle.exports.proofs.chooser.perillajamb_chooser_new.Statement.{statement}
 use Rattle.exports.proofs.chooser.perillajamb_chooser_new.Tie as tie
 
+short-of-requires : tie.Need-short-of-requires
+short-of-requires c κs = search needs
+
 refused-requires : tie.Need-refused-requires
 refused-requires c κs = search needs
 
 returns : tie.Need-returns
 unfolding newCrossed
-returns c = rw (c .refused .ensures, lt-ltb _ 3 (c .before .if1 .taken))
+returns c = rw (c .refused .ensures, c .before .short-of .ensures, lt-ltb _ 3 (c .before .before .if1 .taken))
 
 new-requires : tie.Need-new-requires
 new-requires c κs = search needs
@@ -31,4 +34,4 @@ returns-2 c =
 pub perillajamb-chooser-new-spec : {M : Type 1} → statement M
 perillajamb-chooser-new-spec =
     tie.close
-    (tie.spec refused-requires returns new-requires store-made-requires same-length returns-2)
+    (tie.spec short-of-requires refused-requires returns new-requires store-made-requires same-length returns-2)

@@ -7,12 +7,15 @@ use Rattle.exports.proofs.ChooserCrossLaws.{new-with-k-crosses}
 use Rattle.exports.proofs.chooser.perillajamb_chooser_new_with_k.Statement.{statement}
 use Rattle.exports.proofs.chooser.perillajamb_chooser_new_with_k.Tie as tie
 
+short-of-requires : tie.Need-short-of-requires
+short-of-requires c κs = search needs
+
 refused-requires : tie.Need-refused-requires
 refused-requires c κs = search needs
 
 returns : tie.Need-returns
 unfolding newWithKCrossed
-returns c = rw (c .refused .ensures, lt-ltb _ 3 (c .before .if1 .taken))
+returns c = rw (c .refused .ensures, c .before .short-of .ensures, lt-ltb _ 3 (c .before .before .if1 .taken))
 
 new-with-k-requires : tie.Need-new-with-k-requires
 new-with-k-requires c κs = search needs
@@ -36,6 +39,7 @@ pub perillajamb-chooser-new-with-k-spec : {M : Type 1} → statement M
 perillajamb-chooser-new-with-k-spec =
     tie.close
     (tie.spec
+    short-of-requires
     refused-requires
     returns
     new-with-k-requires

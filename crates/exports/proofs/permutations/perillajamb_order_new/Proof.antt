@@ -5,11 +5,14 @@ use Rattle.exports.proofs.OrderCrossLaws.{new-short, new-refused, new-m
 use Rattle.exports.proofs.permutations.perillajamb_order_new.Statement.{statement}
 use Rattle.exports.proofs.permutations.perillajamb_order_new.Tie as tie
 
+short-of-requires : tie.Need-short-of-requires
+short-of-requires c κs = search needs
+
 refused-requires : tie.Need-refused-requires
 refused-requires c κs = search needs
 
 returns : tie.Need-returns
-returns c = new-short _ _ _ _ (c .refused .ensures) (c .before .if1 .taken)
+returns c = new-short _ _ _ _ _ (c .refused .ensures) (c .before .short-of .ensures) (c .before .before .if1 .taken)
 
 new-requires : tie.Need-new-requires
 new-requires c κs = search needs
@@ -46,6 +49,7 @@ pub perillajamb-order-new-spec : {M : Type 1} → statement M
 perillajamb-order-new-spec =
     tie.close
     (tie.spec
+    short-of-requires
     refused-requires
     returns
     new-requires

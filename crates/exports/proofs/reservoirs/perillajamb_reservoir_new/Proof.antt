@@ -5,11 +5,14 @@ use Rattle.exports.proofs.CrossLaws.{new-short, new-made, new-refused}
 use Rattle.exports.proofs.reservoirs.perillajamb_reservoir_new.Statement.{statement}
 use Rattle.exports.proofs.reservoirs.perillajamb_reservoir_new.Tie as tie
 
+short-refusal-requires : tie.Need-short-refusal-requires
+short-refusal-requires c κs = search needs
+
 refused-requires : tie.Need-refused-requires
 refused-requires c κs = search needs
 
 returns : tie.Need-returns
-returns c = new-short _ _ _ _ _ _ (c .refused .ensures) (c .before .if1 .taken)
+returns c = new-short _ _ _ _ _ _ _ (c .refused .ensures) (c .before .short-refusal .ensures) (c .before .before .if1 .taken)
 
 new-requires : tie.Need-new-requires
 new-requires c κs = search needs
@@ -50,6 +53,7 @@ pub perillajamb-reservoir-new-spec : {M : Type 1} → statement M
 perillajamb-reservoir-new-spec =
     tie.close
     (tie.spec
+    short-refusal-requires
     refused-requires
     returns
     new-requires

@@ -7,12 +7,15 @@ use Rattle.exports.proofs.RoundCrossLaws.{open-crosses}
 use Rattle.exports.proofs.round.perillajamb_round_open.Statement.{statement}
 use Rattle.exports.proofs.round.perillajamb_round_open.Tie as tie
 
+short-refusal-requires : tie.Need-short-refusal-requires
+short-refusal-requires c κs = search needs
+
 refused-requires : tie.Need-refused-requires
 refused-requires c κs = search needs
 
 returns : tie.Need-returns
 unfolding openCrossed
-returns c = rw (c .refused .ensures, lt-ltb _ 7 (c .before .if1 .taken))
+returns c = rw (c .refused .ensures, c .before .short-refusal .ensures, lt-ltb _ 7 (c .before .before .if1 .taken))
 
 open-requires : tie.Need-open-requires
 open-requires c κs = search needs
@@ -36,6 +39,7 @@ pub perillajamb-round-open-spec : {M : Type 1} → statement M
 perillajamb-round-open-spec =
     tie.close
     (tie.spec
+    short-refusal-requires
     refused-requires
     returns
     open-requires

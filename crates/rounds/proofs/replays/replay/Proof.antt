@@ -43,10 +43,13 @@ returns c =
     (replay-unknown _ _ _ _ _ _ _ _ _ _ (sym (c .before .all-known .ensures) ∙ not-true _ (c .if1 .taken)))
     refl
 
+short-refusal-requires : tie.Need-short-refusal-requires
+short-refusal-requires c κs = search needs
+
 returns-2 : tie.Need-returns-2
 returns-2 c =
-    clauses (start (c .before .before)) (outcome.Refused 4) _ _ _ _ _ _
-    (replay-short _ _ _ _ _ _ _ _ _ _ (all (c .before)) (c .if2 .taken))
+    clauses (start (c .before .before .before)) (outcome.Refused _) _ _ _ _ _ _
+    (replay-short _ _ _ _ _ _ _ _ _ _ (all (c .before .before)) (c .before .if2 .taken) _ (c .short-refusal .ensures))
     refl
 
 open-requires : tie.Need-open-requires
@@ -106,6 +109,7 @@ replay-spec =
     (tie.spec
     all-known-requires
     returns
+    short-refusal-requires
     returns-2
     open-requires
     enum-known-w
