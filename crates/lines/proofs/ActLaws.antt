@@ -43,10 +43,10 @@ module _ (c : Current) (l t l′ t′ ls ts : List ℕ) (places : ℕ) (cmd : Co
     unfolding answered
     act-withdraw x e is = acts (withdrawLine x (site c l t)) is (ap (answered before) (sym e))
 
-    pub act-unknown : cmd ≡ command.Unknown → l′ ≡ l → t′ ≡ t → a ≡ refusedBy c 12 → Acts
+    pub act-refused : (w : ℕ) → cmd ≡ command.Refused w → l′ ≡ l → t′ ≡ t → a ≡ refusedBy c w → Acts
     unfolding answered
-    act-unknown e m n r =
-        acts (said (Replies.refused 12) (site c l t)) (ap (λ (x : Answered). saidBy x l′ t′) r ∙ (λ i. said (Replies.refused 12) (site c (m i) (n i)))) (ap (answered before) (sym e))
+    act-refused w e m n r =
+        acts (said (Replies.refused w) (site c l t)) (ap (λ (x : Answered). saidBy x l′ t′) r ∙ (λ i. said (Replies.refused w) (site c (m i) (n i)))) (ap (answered before) (sym e))
 
 -- a plan's
 pub act-plan : (w : World) (cmd : Command) → cmd ≡ command.Plan → planLine w ≡ answered w cmd

@@ -3,7 +3,7 @@
 use mathlib.Core.Path.{_≡_, refl}
 use mathlib.Core.List.{[], _∷_}
 use lib.ListN.{replicate}
-use Rattle.lines.specs.declared.commands.Command.the-variants.{Open, Admit, Join, Withdraw, Plan, Unknown}
+use Rattle.lines.specs.declared.commands.Command.the-variants.{Open, Admit, Join, Withdraw, Plan, Refused}
 use Rattle.lines.specs.Commands.{within, digitOf, numberOf, keyOf, wordAlone, wordAndOne, wordAndThree, commandOf}
 
 -- the lines of document 01's table: 'open\t0000000000000001\t1\t1'
@@ -42,7 +42,7 @@ unfolding commandOf wordAlone wordAndOne wordAndThree keyOf numberOf digitOf wit
 either-case = refl
 
 -- a key of 15 digits: 'open\t000000000000001\t1\t1'
-pub fifteen-digits : commandOf (111 ∷ 112 ∷ 101 ∷ 110 ∷ 9 ∷ 48 ∷ 48 ∷ 48 ∷ 48 ∷ 48 ∷ 48 ∷ 48 ∷ 48 ∷ 48 ∷ 48 ∷ 48 ∷ 48 ∷ 48 ∷ 48 ∷ 49 ∷ 9 ∷ 49 ∷ 9 ∷ 49 ∷ []) ≡ Unknown
+pub fifteen-digits : commandOf (111 ∷ 112 ∷ 101 ∷ 110 ∷ 9 ∷ 48 ∷ 48 ∷ 48 ∷ 48 ∷ 48 ∷ 48 ∷ 48 ∷ 48 ∷ 48 ∷ 48 ∷ 48 ∷ 48 ∷ 48 ∷ 48 ∷ 49 ∷ 9 ∷ 49 ∷ 9 ∷ 49 ∷ []) ≡ Refused 12
 unfolding commandOf wordAlone wordAndOne wordAndThree keyOf numberOf digitOf within
 fifteen-digits = refl
 
@@ -52,7 +52,7 @@ unfolding commandOf wordAlone wordAndOne wordAndThree keyOf numberOf digitOf wit
 largest = refl
 
 -- and one more: 'withdraw\t4294967296'
-pub too-large : commandOf (119 ∷ 105 ∷ 116 ∷ 104 ∷ 100 ∷ 114 ∷ 97 ∷ 119 ∷ 9 ∷ 52 ∷ 50 ∷ 57 ∷ 52 ∷ 57 ∷ 54 ∷ 55 ∷ 50 ∷ 57 ∷ 54 ∷ []) ≡ Unknown
+pub too-large : commandOf (119 ∷ 105 ∷ 116 ∷ 104 ∷ 100 ∷ 114 ∷ 97 ∷ 119 ∷ 9 ∷ 52 ∷ 50 ∷ 57 ∷ 52 ∷ 57 ∷ 54 ∷ 55 ∷ 50 ∷ 57 ∷ 54 ∷ []) ≡ Refused 12
 unfolding commandOf wordAlone wordAndOne wordAndThree keyOf numberOf digitOf within
 too-large = refl
 
@@ -62,31 +62,31 @@ unfolding commandOf wordAlone wordAndOne wordAndThree keyOf numberOf digitOf wit
 ten-digits = refl
 
 -- eleven: 'withdraw\t00000000003'
-pub eleven-digits : commandOf (119 ∷ 105 ∷ 116 ∷ 104 ∷ 100 ∷ 114 ∷ 97 ∷ 119 ∷ 9 ∷ 48 ∷ 48 ∷ 48 ∷ 48 ∷ 48 ∷ 48 ∷ 48 ∷ 48 ∷ 48 ∷ 48 ∷ 51 ∷ []) ≡ Unknown
+pub eleven-digits : commandOf (119 ∷ 105 ∷ 116 ∷ 104 ∷ 100 ∷ 114 ∷ 97 ∷ 119 ∷ 9 ∷ 48 ∷ 48 ∷ 48 ∷ 48 ∷ 48 ∷ 48 ∷ 48 ∷ 48 ∷ 48 ∷ 48 ∷ 51 ∷ []) ≡ Refused 12
 unfolding commandOf wordAlone wordAndOne wordAndThree keyOf numberOf digitOf within
 eleven-digits = refl
 
 -- and none: 'withdraw\t'
-pub no-digits : commandOf (119 ∷ 105 ∷ 116 ∷ 104 ∷ 100 ∷ 114 ∷ 97 ∷ 119 ∷ 9 ∷ []) ≡ Unknown
+pub no-digits : commandOf (119 ∷ 105 ∷ 116 ∷ 104 ∷ 100 ∷ 114 ∷ 97 ∷ 119 ∷ 9 ∷ []) ≡ Refused 12
 unfolding commandOf wordAlone wordAndOne wordAndThree keyOf numberOf digitOf within
 no-digits = refl
 
 -- a tab after the word: 'join\t'
-pub tab-after : commandOf (106 ∷ 111 ∷ 105 ∷ 110 ∷ 9 ∷ []) ≡ Unknown
+pub tab-after : commandOf (106 ∷ 111 ∷ 105 ∷ 110 ∷ 9 ∷ []) ≡ Refused 12
 unfolding commandOf wordAlone wordAndOne wordAndThree keyOf numberOf digitOf within
 tab-after = refl
 
 -- an empty line: ''
-pub empty : commandOf [] ≡ Unknown
+pub empty : commandOf [] ≡ Refused 12
 unfolding commandOf wordAlone wordAndOne wordAndThree keyOf numberOf digitOf within
 empty = refl
 
 -- a capital letter: 'Join'
-pub capital : commandOf (74 ∷ 111 ∷ 105 ∷ 110 ∷ []) ≡ Unknown
+pub capital : commandOf (74 ∷ 111 ∷ 105 ∷ 110 ∷ []) ≡ Refused 12
 unfolding commandOf wordAlone wordAndOne wordAndThree keyOf numberOf digitOf within
 capital = refl
 
 -- 81 blanks; no word is opened, so that the length alone decides
-pub eighty-one : commandOf (replicate 81 32) ≡ Unknown
+pub eighty-one : commandOf (replicate 81 32) ≡ Refused 12
 unfolding commandOf
 eighty-one = refl

@@ -1,7 +1,7 @@
 -- Laws of a line taken apart: its bytes, its numbers, its fields, and what it asks for. The loops' definitions have a law for a
 -- turn (`..-turn`), for a way out (`..-stop`) and for the end (`..-end`), each on what is left of a list at i.
 -- Assumes nothing.
-use mathlib.Core.Path.{_≡_, refl, ap}
+use mathlib.Core.Path.{_≡_, refl, sym, ap, _∙_}
 use mathlib.Core.Logic.{_≢_}
 use mathlib.Core.Bool.{true, false, and-false}
 use mathlib.Core.List.{List, [], _∷_}
@@ -14,10 +14,12 @@ use borrow.Author.Tests.{eqb-true, eqb-false, eq-eqb, ne-eqb, lt-ltb, le-ltb, le
 use lib.Dec.{eqb, leb}
 use lib.ListN.{length, getD, take, drop, length-take, length-drop, drop-of-length-le}
 use lib.Seq.{drop-cons, take-all}
+use Rattle.lists.specs.Told.{Told, refusal, says}
 use Rattle.lists.proofs.Tests.{by-test, by-below}
-use Rattle.lines.specs.declared.commands.Command.the-variants.{Unknown}
+use Rattle.lines.specs.declared.commands.Command.{Command}
+use Rattle.lines.specs.declared.commands.Command.the-variants.{Open, Admit, Join, Withdraw, Plan, Refused}
 use Rattle.lines.specs.Lines.{fields, alike}
-use Rattle.lines.specs.Commands.{within, digitOf, valueOf, byFields, commandOf}
+use Rattle.lines.specs.Commands.{within, digitOf, valueOf, byFields, commandOf, toldCommand, parseCall}
 use Rattle.lines.specs.InnerLines.{placeOf}
 
 -- what is left at i: the byte there, and what is left after it
@@ -177,8 +179,26 @@ module _ (l : List ℕ) (t : ℕ) (e : t ≡ placeOf 9 l) where
 -- ---- what a line asks for
 
 -- five fields or more
-pub many : (w a b c l : List ℕ) → byFields (w ∷ a ∷ b ∷ c ∷ fields l) ≡ Unknown
+pub many : (w a b c l : List ℕ) → byFields (w ∷ a ∷ b ∷ c ∷ fields l) ≡ Refused 12
 many w a b c l = by-below (placeOf 9 l) (length l) (λ h. rw (fields-cut l h)) (λ h. rw (fields-whole l h))
+
+-- a command, back from what is told of it,
+abbrev backCommand : Told Command → Command
+backCommand (refusal w) = Refused w
+backCommand (says c) = c
+
+back-command : (c : Command) → backCommand (toldCommand c) ≡ c
+back-command (Open key k n) = refl
+back-command Admit = refl
+back-command Join = refl
+back-command (Withdraw x) = refl
+back-command Plan = refl
+back-command (Refused w) = refl
+
+-- so a line that is told as the definition tells it asks for the command of the definition
+pub parsed-command : (c : Command) (line : List ℕ) → toldCommand c ≡ parseCall line → c ≡ commandOf line
+unfolding parseCall
+parsed-command c line e = sym (back-command c) ∙ ap backCommand e ∙ back-command (commandOf line)
 
 -- a line asks for what its first 81 bytes ask for
 pub command-first : (l : List ℕ) → commandOf (take 81 l) ≡ commandOf l

@@ -83,7 +83,7 @@ answered-reaches w command.Admit h = admit-reaches (w .site .list) (w .site .tab
 answered-reaches w command.Join h = join-reaches (w .site .list) (w .site .table) (w .site .current) h
 answered-reaches w (command.Withdraw x) h = withdraw-reaches (w .site .list) (w .site .table) x (w .site .current) h
 answered-reaches w command.Plan h = subst SiteReached (sym (plan-site w (w .site .current) refl)) h
-answered-reaches w command.Unknown h = h
+answered-reaches w (command.Refused c) h = h
 
 pub lines-reach : (ls : List (List ℕ)) (w : World) → SiteReached (w .site) → SiteReached (afterLines w ls .site)
 unfolding respond

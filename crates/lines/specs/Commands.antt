@@ -1,4 +1,5 @@
--- Document 01, **The line program**: what a line asks for. Every line that is none of the forms below has no known form.
+-- Document 01, **The line program**: what a line asks for. Every line that is none of the forms below has no known form, which is
+-- refused with 12: "12 .. a program line of no known form".
 -- Assumes nothing.
 use mathlib.Core.Bool.{Bool, cond, _&&_}
 use mathlib.Core.List.{List, [], _∷_}
@@ -6,9 +7,10 @@ use mathlib.Core.Option.{Option, none, some}
 use Prim.Native.Nat.{ℕ, _+_, _-_, _*_, _^_}
 use lib.Dec.{eqb, ltb, leb}
 use lib.ListN.{length}
+use Rattle.lists.specs.Told.{Told, refusal, says}
 use Rattle.lines.specs.Lines.{fields, alike}
 use Rattle.lines.specs.declared.commands.Command.{Command}
-use Rattle.lines.specs.declared.commands.Command.the-variants.{Open, Admit, Join, Withdraw, Plan, Unknown}
+use Rattle.lines.specs.declared.commands.Command.the-variants.{Open, Admit, Join, Withdraw, Plan, Refused}
 
 -- ---- numbers
 
@@ -63,34 +65,48 @@ planWord = 112 ∷ 108 ∷ 97 ∷ 110 ∷ []
 
 -- a word alone: admit, join, plan
 unfoldable pub wordAlone : List ℕ → Command
-wordAlone w = cond (alike w admitWord) Admit (cond (alike w joinWord) Join (cond (alike w planWord) Plan Unknown))
+wordAlone w = cond (alike w admitWord) Admit (cond (alike w joinWord) Join (cond (alike w planWord) Plan (Refused 12)))
 
 -- withdraw and its slot
 abbrev pub withdrawForm : Option ℕ → Command
-withdrawForm none = Unknown
+withdrawForm none = Refused 12
 withdrawForm (some s) = Withdraw s
 
 unfoldable pub wordAndOne : List ℕ → List ℕ → Command
-wordAndOne w a = cond (alike w withdrawWord) (withdrawForm (numberOf a)) Unknown
+wordAndOne w a = cond (alike w withdrawWord) (withdrawForm (numberOf a)) (Refused 12)
 
 -- "Open has key .., k, n"
 abbrev pub openForm : Option ℕ → Option ℕ → Option ℕ → Command
-openForm none k n = Unknown
-openForm (some key) none n = Unknown
-openForm (some key) (some k) none = Unknown
+openForm none k n = Refused 12
+openForm (some key) none n = Refused 12
+openForm (some key) (some k) none = Refused 12
 openForm (some key) (some k) (some n) = Open key k n
 
 unfoldable pub wordAndThree : List ℕ → List ℕ → List ℕ → List ℕ → Command
-wordAndThree w a b c = cond (alike w openWord) (openForm (keyOf a) (numberOf b) (numberOf c)) Unknown
+wordAndThree w a b c = cond (alike w openWord) (openForm (keyOf a) (numberOf b) (numberOf c)) (Refused 12)
 
 abbrev pub byFields : List (List ℕ) → Command
-byFields [] = Unknown
+byFields [] = Refused 12
 byFields (w ∷ []) = wordAlone w
 byFields (w ∷ a ∷ []) = wordAndOne w a
-byFields (w ∷ a ∷ b ∷ []) = Unknown
+byFields (w ∷ a ∷ b ∷ []) = Refused 12
 byFields (w ∷ a ∷ b ∷ c ∷ []) = wordAndThree w a b c
-byFields (w ∷ a ∷ b ∷ c ∷ d ∷ more) = Unknown
+byFields (w ∷ a ∷ b ∷ c ∷ d ∷ more) = Refused 12
 
 -- "lines to 80 bytes (a longer one has no known form)"
 unfoldable pub commandOf : List ℕ → Command
-commandOf line = cond (leb (length line) 80) (byFields (fields line)) Unknown
+commandOf line = cond (leb (length line) 80) (byFields (fields line)) (Refused 12)
+
+-- ---- what is told of a line
+
+-- 01's number, or what the line asks for
+abbrev pub toldCommand : Command → Told Command
+toldCommand (Refused c) = refusal c
+toldCommand (Open key k n) = says (Open key k n)
+toldCommand Admit = says Admit
+toldCommand Join = says Join
+toldCommand (Withdraw x) = says (Withdraw x)
+toldCommand Plan = says Plan
+
+unfoldable pub parseCall : List ℕ → Told Command
+parseCall line = toldCommand (commandOf line)

@@ -109,7 +109,7 @@ answered w command.Admit = onSite w (admitLine (w .site))
 answered w command.Join = onSite w (joinLine (w .site))
 answered w (command.Withdraw x) = onSite w (withdrawLine x (w .site))
 answered w command.Plan = planLine w
-answered w command.Unknown = response (refused 12) w
+answered w (command.Refused c) = response (refused c) w
 
 -- ---- lines
 

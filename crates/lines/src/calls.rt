@@ -198,6 +198,6 @@ pub(crate) fn act(
             current,
             output: plans(current, list, table, locations, terminals, scratch),
         },
-        Command::Unknown => spoken(refused(current, 12)),
+        Command::Refused(w) => spoken(refused(current, w)),
     }
 }

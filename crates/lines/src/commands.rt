@@ -4,17 +4,17 @@ ghost use mathlib.Core.List.{_∷_};
 ghost use Prim.Native.Nat.{_≤_};
 ghost use lib.ListN.{length};
 ghost use Rattle.lines.specs.Lines.{alike, fields};
-ghost use Rattle.lines.specs.Commands.{digitOf, valueOf, below32, numberOf, keyOf, wordAlone, withdrawForm, wordAndOne, openForm, wordAndThree, byFields, commandOf};
+ghost use Rattle.lines.specs.Commands.{digitOf, valueOf, below32, numberOf, keyOf, wordAlone, withdrawForm, wordAndOne, openForm, wordAndThree, byFields, toldCommand, parseCall};
 ghost use Rattle.lines.specs.InnerLines.{placeOf, wideOf, smallOf};
 
-// What a line asks for.
+// What a line asks for, or a refusal with its number.
 pub enum Command {
     Open { key: u64, k: u32, n: u32 },
     Admit,
     Join,
     Withdraw(u32),
     Plan,
-    Unknown,
+    Refused(u32),
 }
 
 // A number of 64 bits that was read, or none.
@@ -162,7 +162,7 @@ fn alone(w: &[u8]) -> Command
     if same(w, b"plan") {
         return Command::Plan;
     }
-    Command::Unknown
+    Command::Refused(12)
 }
 
 fn withdrawing(s: Small) -> Command
@@ -170,7 +170,7 @@ fn withdrawing(s: Small) -> Command
 {
     match s {
         Small::Number(v) => Command::Withdraw(v),
-        Small::None => Command::Unknown,
+        Small::None => Command::Refused(12),
     }
 }
 
@@ -180,7 +180,7 @@ fn one(w: &[u8], a: &[u8]) -> Command
     if same(w, b"withdraw") {
         withdrawing(number(a))
     } else {
-        Command::Unknown
+        Command::Refused(12)
     }
 }
 
@@ -191,11 +191,11 @@ fn opening(key: Wide, k: Small, n: Small) -> Command
         Wide::Number(x) => match k {
             Small::Number(a) => match n {
                 Small::Number(b) => Command::Open { key: x, k: a, n: b },
-                Small::None => Command::Unknown,
+                Small::None => Command::Refused(12),
             },
-            Small::None => Command::Unknown,
+            Small::None => Command::Refused(12),
         },
-        Wide::None => Command::Unknown,
+        Wide::None => Command::Refused(12),
     }
 }
 
@@ -205,7 +205,7 @@ fn three(w: &[u8], a: &[u8], b: &[u8], c: &[u8]) -> Command
     if same(w, b"open") {
         opening(key(a), number(b), number(c))
     } else {
-        Command::Unknown
+        Command::Refused(12)
     }
 }
 
@@ -215,7 +215,7 @@ fn after_three(w: &[u8], a: &[u8], b: &[u8], rest: &[u8]) -> Command
     ensures { λ r. ⌜ r ≡ byFields (now (w .entry) ∷ now (a .entry) ∷ now (b .entry) ∷ fields (now (rest .entry))) ⌝ }
 {
     if place_of(rest, 9) < rest.len() {
-        Command::Unknown
+        Command::Refused(12)
     } else {
         three(w, a, b, rest)
     }
@@ -228,7 +228,7 @@ fn after_two(w: &[u8], a: &[u8], rest: &[u8]) -> Command
     if t < rest.len() {
         after_three(w, a, &rest[..t], &rest[t + 1..])
     } else {
-        Command::Unknown
+        Command::Refused(12)
     }
 }
 
@@ -244,12 +244,12 @@ fn after_one(w: &[u8], rest: &[u8]) -> Command
     }
 }
 
-// What a line asks for.
+// What a line asks for: refusal 12.
 pub fn parse(line: &[u8]) -> Command
-    ensures { λ r. ⌜ r ≡ commandOf (now (line .entry)) ⌝ }
+    ensures { λ r. ⌜ toldCommand r ≡ parseCall (now (line .entry)) ⌝ }
 {
     if 80 < line.len() {
-        return Command::Unknown;
+        return Command::Refused(12);
     }
     let t = place_of(line, 9);
     if t < line.len() {

@@ -2,7 +2,7 @@
 -- Assumes nothing.
 use mathlib.Core.Path.{_∙_, refl}
 use borrow.Author.Needs.{needs}
-use Rattle.lines.proofs.ActLaws.{act-open, act-admit, act-join, act-withdraw, act-plan, act-unknown}
+use Rattle.lines.proofs.ActLaws.{act-open, act-admit, act-join, act-withdraw, act-plan, act-refused}
 use Rattle.lines.proofs.calls.act.Statement.{statement}
 use Rattle.lines.proofs.calls.act.Tie as tie
 
@@ -48,8 +48,8 @@ enum-told-3 c = search needs
 plans-requires : tie.Need-plans-requires
 plans-requires c κs = search needs
 
-enum-told-4 : tie.Need-enum-told-4
-enum-told-4 c = search needs
+enum-known-command-3 : tie.Need-enum-known-command-3
+enum-known-command-3 c = search needs
 
 refused-requires : tie.Need-refused-requires
 refused-requires c κs = search needs
@@ -116,7 +116,7 @@ returns-5 c =
 
 returns-6 : tie.Need-returns-6
 returns-6 c = let call = c .before .refused in
-    act-unknown _ _ _ _ _ _ _ _ _ (call .result) (c .spoken5 .result) (c .spoken5 .ensures) (c .before .before .enum-told4 .given .1) refl refl (call .ensures)
+    act-refused _ _ _ _ _ _ _ _ _ (call .result) (c .spoken5 .result) (c .spoken5 .ensures) _ (c .before .before .before .command3 .given .1) refl refl (call .ensures)
 
 pub act-spec : {M : Type 1} → statement M
 act-spec =
@@ -136,7 +136,7 @@ act-spec =
     spoken-requires-4
     enum-told-3
     plans-requires
-    enum-told-4
+    enum-known-command-3
     refused-requires
     spoken-requires-5
     same-length

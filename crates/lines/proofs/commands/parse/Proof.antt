@@ -1,18 +1,18 @@
 -- `lines::commands::parse` meets its contract.
 -- Assumes nothing.
-use mathlib.Core.Path.{sym}
+use mathlib.Core.Path.{sym, ap}
 use native.Mathlib.Omega.{arith}
 use borrow.Author.Needs.{needs}
 use borrow.Author.Tests.{le-leb, lt-leb}
 use lib.ListN.{length}
 use lib.Seq.{length-take-le}
-use Rattle.lines.specs.Commands.{commandOf}
+use Rattle.lines.specs.Commands.{commandOf, toldCommand, parseCall}
 use Rattle.lines.proofs.CommandLaws.{cut-at, whole-at}
 use Rattle.lines.proofs.commands.parse.Statement.{statement}
 use Rattle.lines.proofs.commands.parse.Tie as tie
 
 returns : tie.Need-returns
-unfolding commandOf
+unfolding parseCall commandOf
 returns c = rw (lt-leb _ _ (c .if1 .taken))
 
 place-of-requires : tie.Need-place-of-requires
@@ -40,20 +40,20 @@ alone-requires : tie.Need-alone-requires
 alone-requires c κs = search needs
 
 returns-2 : tie.Need-returns-2
-unfolding commandOf
+unfolding parseCall commandOf
 returns-2 c =
     let t = c .before .before .before in
     let p = t .before in
     let l = p .before .before .before .args .line .now in
-    rw (le-leb (length l) 80 (p .before .if1 .left), cut-at l (p .place-of .result) (p .place-of .ensures) (t .if2 .taken)) (c .after-one .ensures)
+    rw (le-leb (length l) 80 (p .before .if1 .left), cut-at l (p .place-of .result) (p .place-of .ensures) (t .if2 .taken)) (ap toldCommand (c .after-one .ensures))
 
 returns-3 : tie.Need-returns-3
-unfolding commandOf
+unfolding parseCall commandOf
 returns-3 c =
     let e = c .before in
     let p = e .before in
     let l = p .before .before .before .args .line .now in
-    rw (le-leb (length l) 80 (p .before .if1 .left), whole-at l _ (p .place-of .ensures) (e .if2 .left)) (c .alone .ensures)
+    rw (le-leb (length l) 80 (p .before .if1 .left), whole-at l _ (p .place-of .ensures) (e .if2 .left)) (ap toldCommand (c .alone .ensures))
 
 pub parse-spec : {M : Type 1} → statement M
 parse-spec =
