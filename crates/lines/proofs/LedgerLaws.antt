@@ -16,7 +16,7 @@ use Rattle.rounds.proofs.PlanLaws.{own-plan}
 use Rattle.rounds.proofs.MoveLaws.{reached-kept}
 use Rattle.lines.specs.Commands.{commandOf, planWord, wordAlone}
 use Rattle.lines.specs.Replies as Replies
-use Rattle.lines.specs.Sessions.{Site, site, replied, opening, openLine, admitLine, joinLine, withdrawLine, planLine, World, answered, respond, afterLines}
+use Rattle.lines.specs.Sessions.{Site, site, replied, replaced, openLine, admitLine, joinLine, withdrawLine, planLine, World, answered, respond, afterLines}
 use Rattle.lines.specs.declared.commands.Command.{Command}
 use Rattle.lines.specs.declared.commands.Command.the-variants as command
 use Rattle.lines.specs.declared.sessions.Current.{Current}
@@ -49,7 +49,7 @@ Reaches (current.Open r) l t = Reached (state r l t)
 abbrev pub SiteReached : Site → Type 0
 SiteReached s = Reaches (s .current) (s .list) (s .table)
 
-open-reaches : (key k n : ℕ) (s : Site) → SiteReached s → (o : Told Round) (l : List ℕ) → openCall key k n (s .list) ≡ afterOpen o l → SiteReached (opening s o l .site)
+open-reaches : (key k n : ℕ) (s : Site) → SiteReached s → (o : Told Round) (l : List ℕ) → openCall key k n (s .list) ≡ afterOpen o l → SiteReached (replaced s o l .site)
 unfolding afterAll
 open-reaches key k n s h (refusal w) l e = h
 open-reaches key k n s h (says r) l e =

@@ -24,7 +24,7 @@ use Rattle.rounds.specs.declared.round.Withdrawal.{Withdrawal}
 use Rattle.rounds.specs.Rounds.{roundOf, State, state, fitting, AfterOpen, afterOpen, toldOpened, openCall, admission, admitCall, joining, joinCall, withdrawal, withdrawCall}
 use Rattle.rounds.specs.Plans.{AfterPlan, afterPlan, planCall, toldOutcome, shownPlan}
 use Rattle.lines.specs.Replies as Replies
-use Rattle.lines.specs.Sessions.{site, said, replied, opening, openLine, onRound, saidOf, exchange, admitLine, joinLine, withdrawLine, response, world, planLine}
+use Rattle.lines.specs.Sessions.{site, said, replied, replaced, openLine, onRound, saidOf, exchangeReply, admitLine, joinLine, withdrawLine, response, world, planLine}
 use Rattle.lines.specs.InnerLines.{lineOf, replyOf, Printable}
 use Rattle.lines.specs.InnerSessions.{saidBy, refusedBy, outcomeOf, planBy, planned}
 use Rattle.lines.specs.declared.texts.Answer.{Answer}
@@ -51,8 +51,8 @@ module _ (key k n : ℕ) (l after : List ℕ) (o : Opened) (is : afterOpen (told
   pub opens-made : (r : Round) → o ≡ opened.Made r → (t : List ℕ) → said Replies.opened (site (current.Open r) after t) ≡ openLine key k n (site c l t)
   unfolding openLine
   opens-made r e t =
-      ap (λ (x : Opened). opening (site c l t) (toldOpened x) after) (sym e)
-      ∙ ap (λ (x : AfterOpen). opening (site c l t) (x .told) (x .list)) is
+      ap (λ (x : Opened). replaced (site c l t) (toldOpened x) after) (sym e)
+      ∙ ap (λ (x : AfterOpen). replaced (site c l t) (x .told) (x .list)) is
 
   pub opens-refused : (w : ℕ) → o ≡ opened.Refused w → (a : Answered) → a ≡ refusedBy c w → (t : List ℕ) → saidBy a after t ≡ openLine key k n (site c l t)
   unfolding openLine
@@ -61,7 +61,7 @@ module _ (key k n : ℕ) (l after : List ℕ) (o : Opened) (is : afterOpen (told
       let same : after ≡ l = ap (λ (x : AfterOpen). x .list) is ∙ open-keeps key k n l w told in
       said-refused a c w after t q
       ∙ ap (λ (x : List ℕ). said (Replies.refused w) (site c x t)) same
-      ∙ ap (λ (x : Told Round). opening (site c l t) x (openCall key k n l .list)) (sym told)
+      ∙ ap (λ (x : Told Round). replaced (site c l t) x (openCall key k n l .list)) (sym told)
 
 -- ---- admit, join, withdraw
 
@@ -87,12 +87,12 @@ module _ (c : Current) (l t : List ℕ) where
     withdraw-none x = said-refused a c 12 l t q ∙ none-yet c _ _ e
 
   module _ (r : Round) (e : c ≡ current.Open r) (x : Answer) where
-    pub admit-on : (a : Admission) (l′ : List ℕ) → admission a l′ t ≡ admitCall (state r l t) → lineOf x ≡ replied exchange (Reservoir.toldExchange (a .exchange))
+    pub admit-on : (a : Admission) (l′ : List ℕ) → admission a l′ t ≡ admitCall (state r l t) → lineOf x ≡ replied exchangeReply (Reservoir.toldExchange (a .exchange))
         → said (lineOf x) (site (current.Open (a .round)) l′ t) ≡ admitLine (site c l t)
     unfolding admitLine
     admit-on a l′ is told =
         ap (λ (y : Replies.Reply). said y (site (current.Open (a .round)) l′ t)) told
-        ∙ ap (saidOf exchange) is
+        ∙ ap (saidOf exchangeReply) is
         ∙ on-round c r _ _ e
 
     pub join-on : (a : Joining) (t′ : List ℕ) → joining a l t′ ≡ joinCall (state r l t) → lineOf x ≡ replied Replies.joined (Slots.toldSlot (a .slot))

@@ -39,12 +39,12 @@ abbrev pub said : Reply → Site → Said
 said r s = record { reply = r; site = s }
 
 -- "An accepted open replaces the round"; a refused one changes nothing
-abbrev pub opening : Site → Told Round → List ℕ → Said
-opening s (refusal c) l = said (refused c) s
-opening s (says r) l = said opened (site (current.Open r) l (s .table))
+abbrev pub replaced : Site → Told Round → List ℕ → Said
+replaced s (refusal c) l = said (refused c) s
+replaced s (says r) l = said opened (site (current.Open r) l (s .table))
 
 unfoldable pub openLine : ℕ → ℕ → ℕ → Site → Said
-openLine key k n s = opening s (openCall key k n (s .list) .told) (openCall key k n (s .list) .list)
+openLine key k n s = replaced s (openCall key k n (s .list) .told) (openCall key k n (s .list) .list)
 
 -- "any other call before one gets 12", and all is as it was; after one it is the round's call
 abbrev pub onRound : {A : Type 0} → Current → A → (Round → A) → A
@@ -56,12 +56,12 @@ abbrev pub saidOf : {A : Type 0} → (A → Reply) → After A → Said
 saidOf f a = said (replied f (a .told)) (site (current.Open (a .state .round)) (a .state .list) (a .state .table))
 
 -- "the location in and the one out, or the word none alone"
-abbrev pub exchange : Option (ℕ × ℕ) → Reply
-exchange none = nothing
-exchange (some p) = admitted (p .0) (p .1)
+abbrev pub exchangeReply : Option (ℕ × ℕ) → Reply
+exchangeReply none = nothing
+exchangeReply (some p) = admitted (p .0) (p .1)
 
 unfoldable pub admitLine : Site → Said
-admitLine s = onRound (s .current) (said (refused 12) s) (λ r. saidOf exchange (admitCall (state r (s .list) (s .table))))
+admitLine s = onRound (s .current) (said (refused 12) s) (λ r. saidOf exchangeReply (admitCall (state r (s .list) (s .table))))
 
 unfoldable pub joinLine : Site → Said
 joinLine s = onRound (s .current) (said (refused 12) s) (λ r. saidOf joined (joinCall (state r (s .list) (s .table))))

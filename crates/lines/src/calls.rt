@@ -6,7 +6,7 @@ ghost use lib.ListN.{length};
 ghost use Rattle.orders.specs.ReservoirCalls.{toldExchange};
 ghost use Rattle.choosers.specs.SlotCalls.{toldSlot, toldOutcome};
 ghost use Rattle.lines.specs.Replies.{joined, withdrawn};
-ghost use Rattle.lines.specs.Sessions.{site, world, replied, exchange, openLine, admitLine, joinLine, withdrawLine, answered};
+ghost use Rattle.lines.specs.Sessions.{site, world, replied, exchangeReply, openLine, admitLine, joinLine, withdrawLine, answered};
 ghost use Rattle.lines.specs.InnerLines.{lineOf, Printable};
 ghost use Rattle.lines.specs.InnerSessions.{saidBy, refusedBy, planBy, planned, outcomeOf, spokenOf, actBy};
 use crate::commands::Command;
@@ -22,7 +22,7 @@ use rounds::round::Opened;
 // ---- the answers of the round's calls, as lines
 
 fn exchange_line(e: Exchange) -> Answer
-    ensures { λ a. ⌜ lineOf a ≡ replied exchange (toldExchange e) ⌝ }
+    ensures { λ a. ⌜ lineOf a ≡ replied exchangeReply (toldExchange e) ⌝ }
 {
     match e {
         Exchange::InOut(enters, leaves) => Answer::Admitted { enters, leaves },
