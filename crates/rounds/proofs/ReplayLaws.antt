@@ -73,7 +73,7 @@ told-back (refusal w) = refl
 told-back (says u) = refl
 
 -- the lists keep their lengths
-plan-lengths : (s : State) → Kept s → (ls ts : List ℕ) (places : ℕ)
+pub plan-lengths : (s : State) → Kept s → (ls ts : List ℕ) (places : ℕ)
     → (length (planCall s ls ts places .locations) ≡ length ls) × (length (planCall s ls ts places .terminals) ≡ length ts)
 unfolding planCall
 plan-lengths s kept ls ts places =

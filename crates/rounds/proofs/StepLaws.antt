@@ -17,6 +17,7 @@ use Rattle.lists.specs.Lists.{has, without}
 use Rattle.lists.proofs.Tests.{by-test, by-below, by-same, by-cond}
 use Rattle.lists.proofs.Searching.{first-same}
 use Rattle.orders.specs.ReservoirCalls as Reservoir
+use Rattle.orders.proofs.MemoryLaws.{admit-length}
 use Rattle.orders.proofs.AdmissionLaws.{inOut, reachedBy, Short, Admits, admit-kept}
 use Rattle.choosers.specs.declared.node_map.ConsistentNodeMap.{ConsistentNodeMap}
 use Rattle.choosers.specs.Slots.{active, vacant}
@@ -197,7 +198,13 @@ step s g h x =
     (λ (t : Takes g x (call s x)). subst (λ (w : Told (List ℕ)). agrees g x w × Shows (call s x .state) (fed g x w)) (sym (t .told-is)) (refl, t .shows))
     (outcome s g h x)
 
--- the table keeps its length
+-- the list and the table keep their lengths
+pub step-length : (s : State) (x : Call) → length (call s x .state .list) ≡ length (s .list)
+unfolding call admitCall joinCall withdrawCall
+step-length s admit = by-cond (λ (a : After (Option (ℕ × ℕ))). length (a .state .list) ≡ length (s .list)) (fitting s) _ _ (λ e. admit-length (reservoirOf (s .round)) (s .list)) (λ e. refl)
+step-length s join = by-cond (λ (a : After ℕ). length (a .state .list) ≡ length (s .list)) (fitting s) _ _ (λ e. refl) (λ e. refl)
+step-length s (withdraw x) = by-cond (λ (a : After (Unit {0})). length (a .state .list) ≡ length (s .list)) (fitting s) _ _ (λ e. refl) (λ e. refl)
+
 pub step-bytes : (s : State) (x : Call) → length (call s x .state .table) ≡ length (s .table)
 unfolding call admitCall joinCall withdrawCall
 step-bytes s admit = by-cond (λ (a : After (Option (ℕ × ℕ))). length (a .state .table) ≡ length (s .table)) (fitting s) _ _ (λ e. refl) (λ e. refl)
