@@ -11,5 +11,4 @@ pub mod ActLaws
 pub mod FeedLaws
 pub mod PartLaws
 pub mod RunLaws
-pub mod SessionExamples
 pub mod LedgerLaws

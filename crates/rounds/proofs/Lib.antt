@@ -13,7 +13,6 @@ pub mod RoundCallLaws
 pub mod DealLaws
 pub mod PlanCodeLaws
 pub mod ReplayTurns
-pub mod Examples
 pub mod LocalSteps
 pub mod PlaceSteps
 pub mod CalleeSteps
