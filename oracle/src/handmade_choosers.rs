@@ -44,10 +44,10 @@ fn new_choosers() -> Vec<String> {
     for n in [LIMIT + 1, 1 << 63, u64::MAX] {
         lines.push(refused('C', &Memory::untouched(3, 0), &[state, n], 1));
     }
-    // A record too short, before all else.
-    for n in [0, 5, LIMIT + 1] {
+    // A record too short: 4, after 1 by document 01's order.
+    for (n, c) in [(0, 4), (5, 4), (LIMIT + 1, 1)] {
         for words in [0, 2] {
-            lines.push(refused('C', &Memory::untouched(words, 0), &[state, n], 4));
+            lines.push(refused('C', &Memory::untouched(words, 0), &[state, n], c));
         }
     }
     lines
@@ -90,10 +90,10 @@ fn with_ks() -> Vec<String> {
         with_k_refused(5, u64::MAX, 3, 2, 3),
         with_k_refused(LIMIT, LIMIT + 1, 3, 8, 3),
     ];
-    // A record too short, before all else.
-    for (n, k) in [(9, 3), (5, 6), (LIMIT + 1, 0)] {
-        lines.push(with_k_refused(n, k, 2, 8, 4));
-        lines.push(with_k_refused(n, k, 0, 0, 4));
+    // A record too short: 4, after 1 and 3 by document 01's order.
+    for (n, k, c) in [(9, 3, 4), (5, 6, 3), (LIMIT + 1, 0, 1)] {
+        lines.push(with_k_refused(n, k, 2, 8, c));
+        lines.push(with_k_refused(n, k, 0, 0, c));
     }
     lines
 }

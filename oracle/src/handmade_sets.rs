@@ -155,10 +155,10 @@ fn new_reservoirs() -> Vec<String> {
         new_refused(LIMIT + 1, LIMIT, 6, 8, 3),
         new_refused(u32::MAX, LIMIT, 6, 8, 3),
     ];
-    // A record too short, before all else.
-    for (k, n) in [(2, 5), (0, 5), (6, 5), (1, LIMIT + 1)] {
-        lines.push(new_refused(k, n, 5, 8, 4));
-        lines.push(new_refused(k, n, 0, 0, 4));
+    // A record too short: 4, after 1, 2 and 3 by document 01's order.
+    for (k, n, c) in [(2, 5, 4), (0, 5, 2), (6, 5, 3), (1, LIMIT + 1, 1)] {
+        lines.push(new_refused(k, n, 5, 8, c));
+        lines.push(new_refused(k, n, 0, 0, c));
     }
     lines
 }
