@@ -23,12 +23,12 @@ use Rattle.rounds.specs.declared.round.Opened.the-variants as opened
 use Rattle.rounds.specs.Rounds.{state, State, fitting, afterOpen, toldOpened, openCall, After}
 use Rattle.rounds.specs.Plans as plans
 use Rattle.rounds.specs.Plans.{afterPlan, planCall}
-use Rattle.rounds.specs.Replays.{Replayed, afterReplay, replayCall}
+use Rattle.rounds.specs.Replays.{ReplayScratch, Replayed, afterReplay, replayCall}
 use Rattle.exports.specs.Coded.{truth, codedDone, codedNumber}
 use Rattle.exports.specs.Crossings.{crossed, crossedOne, enough, wordsAfter}
 use Rattle.exports.specs.Reservoirs.{codedExchange}
 use Rattle.exports.specs.Slots.{ScratchAfter}
-use Rattle.exports.specs.Rounds.{roundWords, roundAs, wordsOpened, openCrossed, crossedRound, leftAs, crossedPlan, planCrossed, fitsCrossed, crossedReplay, replayCrossed, ReplayedAs}
+use Rattle.exports.specs.Rounds.{roundWords, roundAs, wordsOpened, openCrossed, crossedRound, leftAs, crossedPlan, planCrossed, fitsCrossed, crossedReplay, replayCrossed, ReplayScratchAs, ReplayedAs}
 
 -- ---- the record goes to the words, by what was said
 
@@ -96,6 +96,10 @@ module _ (ws : List ℕ) (h : 7 ≤ length ws) (a : ℕ) where
 pub outcome-spares : (o : Outcome) (a : ℕ) (before now : List ℕ) → a ≡ codedDone (toldOutcome o) → plans.ScratchAfter o before now → ScratchAfter a before now
 outcome-spares outcome.Done a before now e s p = absurd (omega arith)
 outcome-spares (outcome.Refused w) a before now e s p = s
+
+pub replay-spares : (o : Outcome) (a c : ℕ) (ws before now : List ℕ) → a ≡ codedDone (toldOutcome o) → ReplayScratch o c ws before now → ReplayScratchAs a c ws before now
+replay-spares outcome.Done a c ws before now e s = ((λ p. absurd (omega arith)), s .1)
+replay-spares (outcome.Refused w) a c ws before now e s = ((λ p. s), (λ p. s))
 
 module _ (key k n : ℕ) (codes l t ws ls ts l′ t′ ws′ ls′ ts′ : List ℕ) (places a : ℕ) (o : Outcome) (w : a ≡ codedDone (toldOutcome o)) where
   pub replay-crosses : afterReplay (toldOutcome o) l′ t′ ws′ ls′ ts′ ≡ replayCall key k n codes l t ws ls ts places → crossedReplay a l′ t′ ws′ ls′ ts′ ≡ replayCrossed key k n codes l t ws ls ts places

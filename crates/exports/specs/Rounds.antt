@@ -1,8 +1,9 @@
 -- How a round crosses to C and Rust: its record as seven words, its answers as one number.
 -- Assumes nothing.
 use mathlib.Core.Path.{_≡_}
+use mathlib.Core.Logic.{_≢_}
 use mathlib.Core.List.{List, [], _∷_, map}
-use Prim.Native.Nat.{ℕ, _+_, _*_, _/_, _%_, _^_}
+use Prim.Native.Nat.{ℕ, _+_, _*_, _/_, _%_, _^_, _≤_}
 use lib.ListN.{getD}
 use Rattle.lists.specs.Told.{Told, refusal, says}
 use Rattle.lists.specs.Lists.{written}
@@ -98,6 +99,10 @@ unfoldable pub replayCrossed : ℕ → ℕ → ℕ → List ℕ → List ℕ →
 replayCrossed key k n codes l t ws ls ts places =
     let a = replayCall key k n codes l t ws ls ts places in
     crossedReplay (codedDone (a .told)) (a .list) (a .table) (a .answers) (a .locations) (a .terminals)
+
+-- a refusal leaves the scratch, and so does a replay whose plan was refused: its answer stands behind those of c calls
+abbrev pub ReplayScratchAs : ℕ → ℕ → List ℕ → List ℕ → List ℕ → Type 0
+ReplayScratchAs a c ws before now = (2 ^ 63 ≤ a → now ≡ before) × (getD ws (4 * c) 0 ≢ 0 → now ≡ before)
 
 -- demand 3 in the ledger's terms alone, where it answers 0
 abbrev pub ReplayedAs : ℕ → ℕ → ℕ → ℕ → List ℕ → ℕ → ℕ → List ℕ → List ℕ → List ℕ → Type 0

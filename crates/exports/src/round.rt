@@ -11,7 +11,7 @@ ghost use Rattle.exports.specs.Coded.{codedDone, codedNumber};
 ghost use Rattle.exports.specs.Crossings.{crossed, crossedOne, wordsAfter};
 ghost use Rattle.exports.specs.Reservoirs.{codedExchange};
 ghost use Rattle.exports.specs.Slots.{ScratchAfter};
-ghost use Rattle.exports.specs.Rounds.{roundWords, roundAs, wordsOpened, openCrossed, crossedRound, admitCrossed, joinCrossed, withdrawCrossed, crossedPlan, planCrossed, fitsCrossed, crossedReplay, replayCrossed, ReplayedAs};
+ghost use Rattle.exports.specs.Rounds.{roundWords, roundAs, wordsOpened, openCrossed, crossedRound, admitCrossed, joinCrossed, withdrawCrossed, crossedPlan, planCrossed, fitsCrossed, crossedReplay, replayCrossed, ReplayScratchAs, ReplayedAs};
 use crate::parts;
 use choosers::node_map::Outcome;
 use choosers::node_map::Slot;
@@ -236,7 +236,7 @@ pub extern "C" fn perillajamb_round_replay(
 ) -> u64
     ensures { λ r. ⌜ crossedReplay r (now (list .exit)) (now (table .exit)) (now (answers .exit)) (now (locations .exit)) (now (terminals .exit)) ≡ replayCrossed key k n (now (calls .entry)) (now (list .entry)) (now (table .entry)) (now (answers .entry)) (now (locations .entry)) (now (terminals .entry)) (length (now (scratch .entry))) ⌝ }
     ensures { λ r. ⌜ ReplayedAs r key k n (now (calls .entry)) (length (now (table .entry))) (length (now (scratch .entry))) (now (answers .exit)) (now (locations .exit)) (now (terminals .exit)) ⌝ }
-    ensures { λ r. ⌜ ScratchAfter r (now (scratch .entry)) (now (scratch .exit)) ⌝ }
+    ensures { λ r. ⌜ ReplayScratchAs r (length (now (calls .entry))) (now (answers .exit)) (now (scratch .entry)) (now (scratch .exit)) ⌝ }
 {
     let o = replays::replay(
         key,

@@ -8,11 +8,12 @@ use native.Mathlib.Numerals.{add-one}
 use native.Mathlib.Omega.{arith}
 use borrow.Author.Tests.{eq-eqb, ne-eqb, lt-ltb, le-ltb}
 use lib.ListN.{length, take, drop, getD, set, length-append, length-map, drop-of-length-le}
-use lib.Seq.{drop-cons, drop-append-add, drop-drop, sets-eq, take-at}
+use lib.Seq.{drop-cons, drop-append-add, drop-drop, sets-eq, take-at, getD-at, length-take-le}
 use Rattle.lists.specs.Told.{Told, refusal, says, mapTold}
 use Rattle.lists.specs.Lists.{every, written}
 use Rattle.orders.specs.ReservoirCalls.{toldExchange, shortRefusal}
 use Rattle.choosers.specs.declared.node_map.Outcome.{Outcome}
+use Rattle.choosers.specs.declared.node_map.Outcome.the-variants as outcome
 use Rattle.choosers.specs.SlotCalls.{toldSlot}
 use Rattle.rounds.specs.declared.replays.Answer.{Answer}
 use Rattle.rounds.specs.declared.replays.Called.{Called}
@@ -23,10 +24,10 @@ use Rattle.rounds.specs.declared.round.Admission.{Admission}
 use Rattle.rounds.specs.declared.round.Joining.{Joining}
 use Rattle.rounds.specs.declared.round.Withdrawal.{Withdrawal}
 use Rattle.rounds.specs.Rounds.{State, state, afterOpen, toldOpened, openCall, admission, admitCall, joining, joinCall, withdrawal, withdrawCall}
-use Rattle.rounds.specs.Plans.{toldOutcome, afterPlan, planCall}
+use Rattle.rounds.specs.Plans.{toldOutcome, afterPlan, planCall, ScratchAfter}
 use Rattle.rounds.specs.Ledgers.{Call}
 use Rattle.rounds.specs.Histories.{exchanged, slotSaid, nothingSaid, call, afterAll, allSaid}
-use Rattle.rounds.specs.Replays.{known, callOf, coded, codedAll, afterReplay, runOf, replayCall}
+use Rattle.rounds.specs.Replays.{known, callOf, coded, codedAll, afterReplay, runOf, replayCall, ScratchRun}
 use Rattle.rounds.specs.InnerReplays.{wordsOf, placedAt, Stepped, stepped, stepOf}
 
 -- ---- the test of the numbers, from place i on
@@ -170,6 +171,19 @@ run-is s codes r l t ws us ls ts places o a ws′ ls′ ts′ ends said planned 
     let answers : ws′ ≡ written (codedAll (allSaid s calls) ++ coded (mapTold nothingSaid (toldOutcome o))) ws =
     rw (put, words, said) (placed-behind (4 * length codes) (codedAll (allSaid s calls)) (coded (mapTold nothingSaid (toldOutcome o))) ws long) in
     rw (answers, ← ends, ← planned)
+
+placed-first : (p a b c d : ℕ) (l : List ℕ) → p ≤ length l → getD (placedAt p (a ∷ b ∷ c ∷ d ∷ []) l) p 0 ≡ a
+unfolding placedAt
+placed-first p a b c d l h = rw (append-assoc (take p l) (a ∷ b ∷ c ∷ d ∷ []) (drop (p + 4) l)) (getD-at (take p l) a (b ∷ c ∷ d ∷ drop (p + 4) l) 0 p (length-take-le p l h))
+
+-- the plan's answer tells whether the plan was refused, and so whether the scratch is as it was
+pub run-scratch : (c : ℕ) (o : Outcome) (a : Answer) (us ws before now : List ℕ) → 4 * c ≤ length us → wordsOf a ≡ coded (mapTold nothingSaid (toldOutcome o))
+    → ws ≡ placedAt (4 * c) (wordsOf a) us → ScratchAfter o before now → ScratchRun c ws before now
+run-scratch c outcome.Done a us ws before now h words put kept =
+    let first : getD ws (4 * c) 0 ≡ 0 =
+    ap (λ (l : List ℕ). getD l (4 * c) 0) put ∙ placed-first (4 * c) (a .refused) (a .values) (a .first) (a .second) us h ∙ ap (λ (l : List ℕ). getD l 0 0) words in
+    (kept, λ accepted. absurd (accepted first))
+run-scratch c (outcome.Refused w) a us ws before now h words put kept = (ap length kept, λ refused. kept)
 
 -- ---- replay, by its tests
 

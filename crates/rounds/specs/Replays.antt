@@ -2,6 +2,7 @@
 -- and answers are written as numbers; what replay says and leaves; and what its answers are by the ledger alone.
 -- Assumes nothing.
 use mathlib.Core.Path.{_≡_}
+use mathlib.Core.Logic.{_≢_}
 use mathlib.Core.Bool.{Bool, cond, _||_}
 use mathlib.Core.List.{List, [], _∷_, _++_, map}
 use Prim.Native.Nat.{ℕ, zero, suc, _+_, _*_, _^_, _/_, _%_}
@@ -83,6 +84,17 @@ replayCall key k n codes l t ws ls ts places =
     (cond (ltb (length ws) (4 * length codes + 4)) (afterReplay (refusal (shortRefusal k n)) l t ws ls ts)
     (openedRun (o .told) (o .list) t (map callOf codes) ws ls ts places))
     (afterReplay (refusal 12) l t ws ls ts)
+
+-- ---- the scratch
+
+-- "the scratch is free after an accepted .. plan, unchanged after a refused one": the plan's answer stands behind those of c calls, and its
+-- first place is 0 where it was accepted
+abbrev pub ScratchRun : ℕ → List ℕ → List ℕ → List ℕ → Type 0
+ScratchRun c ws before now = (length now ≡ length before) × (getD ws (4 * c) 0 ≢ 0 → now ≡ before)
+
+abbrev pub ReplayScratch : Outcome → ℕ → List ℕ → List ℕ → List ℕ → Type 0
+ReplayScratch (outcome.Refused w) c ws before now = now ≡ before
+ReplayScratch outcome.Done c ws before now = ScratchRun c ws before now
 
 -- ---- demand 3 of what replay leaves, in the ledger's terms alone
 

@@ -8,9 +8,9 @@ ghost use Rattle.lists.specs.Lists.{every, written};
 ghost use Rattle.orders.specs.ReservoirCalls.{toldExchange};
 ghost use Rattle.choosers.specs.SlotCalls.{toldSlot};
 ghost use Rattle.rounds.specs.Rounds.{state};
-ghost use Rattle.rounds.specs.Plans.{toldOutcome, ScratchAfter};
+ghost use Rattle.rounds.specs.Plans.{toldOutcome};
 ghost use Rattle.rounds.specs.Histories.{exchanged, slotSaid, nothingSaid, afterAll, allSaid};
-ghost use Rattle.rounds.specs.Replays.{known, callOf, coded, codedAll, afterReplay, runOf, replayCall, Replayed};
+ghost use Rattle.rounds.specs.Replays.{known, callOf, coded, codedAll, afterReplay, runOf, replayCall, ScratchRun, ReplayScratch, Replayed};
 ghost use Rattle.rounds.specs.InnerReplays.{wordsOf, placedAt, stepped, stepOf};
 use crate::lending;
 use crate::round;
@@ -164,6 +164,7 @@ fn run(
 )
     requires { ⌜ 4 * length (now calls) + 4 ≤ length (now answers) ⌝ }
     ensures { λ _. ⌜ afterReplay (says tt) (now (list .exit)) (now (table .exit)) (now (answers .exit)) (now (locations .exit)) (now (terminals .exit)) ≡ runOf (state r (now (list .entry)) (now (table .entry))) (map callOf (now (calls .entry))) (now (answers .entry)) (now (locations .entry)) (now (terminals .entry)) (length (now (scratch .entry))) ⌝ }
+    ensures { λ _. ⌜ ScratchRun (length (now (calls .entry))) (now (answers .exit)) (now (scratch .entry)) (now (scratch .exit)) ⌝ }
 {
     let s = run_calls(r, calls, list, table, answers);
     let o = round::plan(s, list, table, locations, terminals, scratch);
@@ -196,8 +197,8 @@ fn all_known(calls: &[u64]) -> bool
     true
 }
 
-// Opens a round, makes the calls on it, and plans: refusals 12 for a number that is no call, 4 for too short a list of answers, and
-// open's. From then on it is not refused: the answers of the calls and of the plan stand in the list of answers.
+// Opens a round, makes the calls on it, and plans: refusals 12 for a number that is no call, then open's, 4 also for too short a list
+// of answers. From then on it is not refused: the answers of the calls and of the plan stand in the list of answers.
 pub fn replay(
     key: u64,
     k: u32,
@@ -212,7 +213,7 @@ pub fn replay(
 ) -> Outcome
     ensures { λ o. ⌜ afterReplay (toldOutcome o) (now (list .exit)) (now (table .exit)) (now (answers .exit)) (now (locations .exit)) (now (terminals .exit)) ≡ replayCall key k n (now (calls .entry)) (now (list .entry)) (now (table .entry)) (now (answers .entry)) (now (locations .entry)) (now (terminals .entry)) (length (now (scratch .entry))) ⌝ }
     ensures { λ o. ⌜ Replayed o key k n (now (calls .entry)) (length (now (table .entry))) (length (now (scratch .entry))) (now (answers .exit)) (now (locations .exit)) (now (terminals .exit)) ⌝ }
-    ensures { λ o. ⌜ ScratchAfter o (now (scratch .entry)) (now (scratch .exit)) ⌝ }
+    ensures { λ o. ⌜ ReplayScratch o (length (now (calls .entry))) (now (answers .exit)) (now (scratch .entry)) (now (scratch .exit)) ⌝ }
 {
     if !all_known(calls) {
         return Outcome::Refused(12);

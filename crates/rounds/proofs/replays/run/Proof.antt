@@ -2,8 +2,9 @@
 -- Assumes nothing.
 use native.Mathlib.Omega.{arith}
 use borrow.Author.Needs.{needs}
+use lib.ListN.{length}
 use Rattle.rounds.specs.Rounds.{state}
-use Rattle.rounds.proofs.ReplayTurns.{run-is}
+use Rattle.rounds.proofs.ReplayTurns.{run-is, run-scratch}
 use Rattle.rounds.proofs.replays.run.Statement.{statement}
 use Rattle.rounds.proofs.replays.run.Tie as tie
 
@@ -57,9 +58,12 @@ returns c =
     let words = c .before .before .before in
     let plan = planned (words .before) in
     let calls = ran plan in
-    let a = start calls .args in
-    run-is (state (a .r) (a .list .now) (a .table .now)) (a .calls .now) (calls .run-calls .result) _ _ _ _ _ _ _ (plan .plan .result) (words .of-outcome .result) _ _ _
-    (calls .run-calls .ensures .0) (calls .run-calls .ensures .1) (plan .plan .ensures .0) (words .of-outcome .ensures) (c .before .before .put .ensures)
+    let a = start calls .args in (
+      run-is (state (a .r) (a .list .now) (a .table .now)) (a .calls .now) (calls .run-calls .result) _ _ _ _ _ _ _ (plan .plan .result) (words .of-outcome .result) _ _ _
+          (calls .run-calls .ensures .0) (calls .run-calls .ensures .1) (plan .plan .ensures .0) (words .of-outcome .ensures) (c .before .before .put .ensures),
+      run-scratch (length (a .calls .now)) (plan .plan .result) (words .of-outcome .result) _ _ _ _
+          (omega (arith, start calls .pre, calls .run-calls .kept .1 .1 .1 .1 .0)) (words .of-outcome .ensures) (c .before .before .put .ensures) (plan .plan .ensures .1),
+    )
 
 pub run-spec : {M : Type 1} → statement M
 run-spec =
