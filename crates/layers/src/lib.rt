@@ -1,4 +1,5 @@
 // The layers of document 01: each a permutation of 0..4^(j+1), made of Feistel rounds.
+#![tactic(auto)]
 mod feistel;
 mod rows;
 

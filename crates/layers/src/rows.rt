@@ -3,7 +3,7 @@ ghost use Rattle.std.specs.Prelude.{◌≡◌, ◌<◌};
 ghost use Rattle.layers.specs.InnerRows.{row_of};
 
 // A layer's bits, size and Feistel rounds.
-#[derive(Drop)]
+#[derive(Clone, Copy)]
 pub struct Row {
     pub bits: u32,
     pub size: u32,

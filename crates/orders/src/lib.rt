@@ -1,4 +1,5 @@
 // The orders of document 01, and the reservoirs over them.
+#![tactic(auto)]
 mod checks;
 pub mod consistent_permutation;
 pub mod consistent_reservoir;

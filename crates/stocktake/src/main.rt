@@ -1,5 +1,6 @@
 // The line program: records from standard input, answers to standard output. It reads, feeds and writes; what is answered to which
 // bytes is the library's.
+#![tactic(auto)]
 ghost use Rattle.std.specs.Prelude.{◌≤◌, length, ◌≡◌};
 ghost use Rattle.stocktake.specs.Pieces.{Within, PartOf};
 

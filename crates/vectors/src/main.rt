@@ -1,4 +1,5 @@
 // Replays the stored answers of the original through the proved library, and says how many agree.
+#![tactic(auto)]
 mod calls;
 mod chooser_calls;
 mod choosings;

@@ -1,0 +1,9 @@
+-- `hashes::buckets::drawn` meets its contract.
+-- Assumes nothing.
+use borrow.Author.Rules.{rules}
+use Rattle.hashes.specs.Hashes.{draw}
+use Rattle.hashes.proofs.buckets.drawn.Goals as goal
+
+pub returns : goal.returns
+unfolding draw
+returns c = c.fed.ensures

@@ -1,0 +1,31 @@
+-- `hashes::search::highest_under` meets its contract.
+-- Assumes nothing.
+use mathlib.Core.Path.{sym, ◌∙◌}
+use Prim.Native.Nat.{◌<◌}
+use native.Mathlib.Omega.{arith}
+use borrow.Author.Rules.{rules}
+use Rattle.hashes.proofs.PrevLaws.{under_over, place_less, under_first}
+use Rattle.hashes.proofs.search.highest_under.Goals as goal
+use Rattle.hashes.proofs.search.highest_under.Goals.{After-highest-j}
+
+-- the highest bit is below bit k
+less : (c : After-highest-j) → c.highest-j.result < c.args.k
+less c =
+    let a = c.args in
+    let e = c.remainder-rest.ensures in
+    place_less a.state a.n a.k c.highest-j.result (rw e at c.highest-j.ensures.0) (rw e at c.highest-j.ensures.1)
+
+pub returns-then-rest-eq0 : goal.returns-then-rest-eq0
+returns-then-rest-eq0 c =
+    let a = c.args in
+    sym (under_over a.state a.n a.k (sym c.remainder-rest.ensures ∙ c.if-rest-eq0.true))
+
+pub first_number-requires : goal.first_number-requires
+first_number-requires c = omega (arith, less (goal.at.first_number-requires c).After-highest-j)
+
+pub returns : goal.returns
+returns c =
+    let a = c.args in
+    let e = c.remainder-rest.ensures in
+    let h = c.highest-j.ensures in
+    c.first_number.ensures ∙ under_first a.state a.n a.k c.highest-j.result c.opened.result (search rules) (rw e at h.0) (rw e at h.1) c.opened.ensures

@@ -1,0 +1,15 @@
+-- `layers::KeyedLayer::new` meets its contract.
+-- Assumes nothing.
+use Rattle.std.proofs.Common.{ap, arith, rules, le-leb}
+use borrow.Author.Tests.{lt-leb}
+use Rattle.lists.specs.Told.{says}
+use Rattle.layers.specs.KeyedLayers.{keyed}
+use Rattle.layers.proofs.KeyedLayer.new.Goals as goal
+
+pub returns-then-layer-gt-LAYER_LIMIT : goal.returns-then-layer-gt-LAYER_LIMIT
+unfolding keyed
+returns-then-layer-gt-LAYER_LIMIT c = simp (lt-leb c.args.layer 14 (omega arith))
+
+pub returns : goal.returns
+unfolding keyed
+returns c = simp (le-leb c.args.layer 14 (omega arith)) (ap says c.keyed_of.ensures)
