@@ -1,0 +1,14 @@
+-- `choosers::tables::lowest` meets its contract.
+-- Assumes nothing.
+use Prim.Native.Nat.{◌-◌, ◌≤◌}
+use native.Mathlib.Omega.{arith}
+use borrow.Author.Rules.{rules}
+use Rattle.choosers.specs.Slots.{vacant}
+use Rattle.choosers.proofs.TableLaws.{vacant_hit, vacant_turn, vacant_end}
+use Rattle.choosers.proofs.tables.lowest.Given as goal
+
+abbrev pub invariant-loop-x : goal.invariant-loop-x
+invariant-loop-x l = l.x ≤ vacant l.table l.c
+
+abbrev pub decreases-loop-x : goal.decreases-loop-x
+decreases-loop-x l = l.c - l.x
