@@ -1,5 +1,6 @@
 // The layers of document 01: each a permutation of 0..4^(j+1), made of Feistel rounds.
 #![tactic(auto)]
+
 mod feistel;
 mod rows;
 

@@ -2,7 +2,6 @@
 -- Assumes nothing.
 use Prim.Native.Nat.{◌-◌}
 use native.Mathlib.Omega.{arith}
-use borrow.Author.Rules.{rules}
 use Rattle.choosers.proofs.LookupLaws.{low_at}
 use Rattle.choosers.proofs.lookups.larger_at.Goals as goal
 

@@ -1,12 +1,11 @@
 -- `choosers::lookups::lower` meets its contract.
 -- Assumes nothing.
 use mathlib.Core.Path.{◌≡◌, refl, sym, ◌∙◌}
-use Prim.Native.Nat.{◌≤◌, ◌<◌, ◌-◌, ◌^◌}
+use Prim.Native.Nat.{◌≤◌, ◌<◌, ◌-◌}
 use native.Mathlib.Omega.{arith}
 use borrow.Author.Rules.{rules}
-use lib.ListN.{length, get_or, length-set}
-use Rattle.choosers.specs.Choosers.{lower_at}
-use Rattle.choosers.specs.InnerLookups.{lows, Held, Rises, Under}
+use lib.ListN.{get_or, length-set}
+use Rattle.choosers.specs.InnerLookups.{lows}
 use Rattle.choosers.proofs.TurnLaws.{turn_stop, turn_end}
 use Rattle.choosers.proofs.LookupLaws.{low_at, turn-less, turn-leaves}
 use Rattle.choosers.proofs.lookups.lower.Goals as goal

@@ -1,14 +1,10 @@
 -- `choosers::lookups::lower` meets its contract.
 -- Assumes nothing.
-use mathlib.Core.Path.{◌≡◌, refl, sym, ◌∙◌}
-use Prim.Native.Nat.{◌≤◌, ◌<◌, ◌-◌, ◌^◌}
-use native.Mathlib.Omega.{arith}
-use borrow.Author.Rules.{rules}
-use lib.ListN.{length, get_or, length-set}
+use mathlib.Core.Path.{◌≡◌}
+use Prim.Native.Nat.{◌≤◌, ◌<◌, ◌^◌}
+use lib.ListN.{length}
 use Rattle.choosers.specs.Choosers.{lower_at}
 use Rattle.choosers.specs.InnerLookups.{lows, Held, Rises, Under}
-use Rattle.choosers.proofs.TurnLaws.{turn_stop, turn_end}
-use Rattle.choosers.proofs.LookupLaws.{low_at, turn-less, turn-leaves}
 use Rattle.choosers.proofs.lookups.lower.Given as goal
 
 abbrev pub invariant-loop-i : goal.invariant-loop-i

@@ -1,14 +1,11 @@
 -- `choosers::node_map::first_active` meets its contract.
 -- Assumes nothing.
-use mathlib.Core.Path.{◌≡◌, refl, sym, ◌∙◌}
-use Prim.Native.Nat.{◌-◌}
+use mathlib.Core.Path.{refl, sym, ◌∙◌}
 use native.Mathlib.Omega.{arith}
 use borrow.Author.Rules.{rules}
-use lib.ListN.{length}
 use Rattle.choosers.specs.Choosers.{S}
-use Rattle.choosers.specs.InnerLookups.{Stands}
 use Rattle.choosers.proofs.OrderLaws.{Q_below}
-use Rattle.choosers.proofs.LookLaws.{Ahead, look_first, look-next, look_hit, look_over}
+use Rattle.choosers.proofs.LookLaws.{look_first, look-next, look_hit, look_over}
 use Rattle.choosers.proofs.node_map.first_active.Goals as goal
 
 pub loop-k-init : goal.loop-k-init

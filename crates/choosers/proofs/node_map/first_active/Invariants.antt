@@ -1,14 +1,10 @@
 -- `choosers::node_map::first_active` meets its contract.
 -- Assumes nothing.
-use mathlib.Core.Path.{◌≡◌, refl, sym, ◌∙◌}
+use mathlib.Core.Path.{◌≡◌}
 use Prim.Native.Nat.{◌-◌}
-use native.Mathlib.Omega.{arith}
-use borrow.Author.Rules.{rules}
 use lib.ListN.{length}
-use Rattle.choosers.specs.Choosers.{S}
 use Rattle.choosers.specs.InnerLookups.{Stands}
-use Rattle.choosers.proofs.OrderLaws.{Q_below}
-use Rattle.choosers.proofs.LookLaws.{Ahead, look_first, look-next, look_hit, look_over}
+use Rattle.choosers.proofs.LookLaws.{Ahead}
 use Rattle.choosers.proofs.node_map.first_active.Given as goal
 
 abbrev pub invariant-loop-k : goal.invariant-loop-k

@@ -1,6 +1,5 @@
 -- `choosers::node_map::location_state` meets its contract.
 -- Assumes nothing.
-use borrow.Author.Rules.{rules}
 use Rattle.choosers.specs.Slots.{state_of}
 use Rattle.choosers.proofs.node_map.location_state.Goals as goal
 

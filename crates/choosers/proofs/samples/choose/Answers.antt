@@ -1,11 +1,11 @@
 -- `choosers::samples::choose` meets its contract.
 -- Assumes nothing.
-use mathlib.Core.Path.{◌≡◌, refl, ◌∙◌}
-use Prim.Native.Nat.{◌≤◌, ◌-◌}
+use mathlib.Core.Path.{refl, ◌∙◌}
+use Prim.Native.Nat.{◌-◌}
 use native.Mathlib.Omega.{arith}
 use borrow.Author.Rules.{rules}
-use lib.ListN.{length, length-set}
-use Rattle.choosers.proofs.ChooseLaws.{Choosing, choosing_first, choosing_done, choosing_at, high-ge, high_lt, high-own, choosing-next}
+use lib.ListN.{length-set}
+use Rattle.choosers.proofs.ChooseLaws.{choosing_first, choosing_done, choosing_at, high-ge, high_lt, high-own, choosing-next}
 use Rattle.choosers.proofs.samples.choose.Goals as goal
 
 pub loop-i-init : goal.loop-i-init

@@ -1,11 +1,9 @@
 -- `choosers::samples::choose` meets its contract.
 -- Assumes nothing.
-use mathlib.Core.Path.{◌≡◌, refl, ◌∙◌}
-use Prim.Native.Nat.{◌≤◌, ◌-◌}
-use native.Mathlib.Omega.{arith}
-use borrow.Author.Rules.{rules}
-use lib.ListN.{length, length-set}
-use Rattle.choosers.proofs.ChooseLaws.{Choosing, choosing_first, choosing_done, choosing_at, high-ge, high_lt, high-own, choosing-next}
+use mathlib.Core.Path.{◌≡◌}
+use Prim.Native.Nat.{◌≤◌}
+use lib.ListN.{length}
+use Rattle.choosers.proofs.ChooseLaws.{Choosing}
 use Rattle.choosers.proofs.samples.choose.Given as goal
 
 abbrev pub invariant-loop-i : goal.invariant-loop-i

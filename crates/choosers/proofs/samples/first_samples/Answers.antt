@@ -1,13 +1,10 @@
 -- `choosers::samples::first_samples` meets its contract.
 -- Assumes nothing.
 use mathlib.Core.Path.{◌≡◌, refl, ◌∙◌}
-use Prim.Native.Nat.{◌≤◌, ◌-◌}
 use native.Mathlib.Omega.{arith}
 use borrow.Author.Rules.{rules}
-use lib.ListN.{length, length-set}
+use lib.ListN.{length-set}
 use lib.Seq.{drop-set-lt}
-use Rattle.choosers.specs.Choosers.{largest_g}
-use Rattle.choosers.specs.InnerChoosers.{Owns, SameFrom}
 use Rattle.choosers.proofs.ChooseLaws.{top_none, top_more, owns_more}
 use Rattle.choosers.proofs.samples.first_samples.Goals as goal
 

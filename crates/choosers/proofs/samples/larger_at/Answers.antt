@@ -2,7 +2,6 @@
 -- Assumes nothing.
 use mathlib.Core.Path.{sym, ◌∙◌}
 use native.Mathlib.Omega.{arith}
-use borrow.Author.Rules.{rules}
 use Rattle.choosers.proofs.TurnLaws.{larger_first, larger_later}
 use Rattle.choosers.proofs.samples.larger_at.Goals as goal
 

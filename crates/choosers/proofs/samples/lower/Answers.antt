@@ -1,13 +1,11 @@
 -- `choosers::samples::lower` meets its contract.
 -- Assumes nothing.
-use mathlib.Core.Path.{◌≡◌, refl, sym, ◌∙◌}
-use Prim.Native.Nat.{◌-◌, ◌≤◌, ◌^◌}
+use mathlib.Core.Path.{refl, sym, ◌∙◌}
+use Prim.Native.Nat.{◌-◌}
 use native.Mathlib.Omega.{arith}
 use borrow.Author.Rules.{rules}
-use lib.ListN.{length-set, length}
+use lib.ListN.{length-set}
 use lib.Seq.{get_or-set_other}
-use Rattle.choosers.specs.Choosers.{lower_at}
-use Rattle.choosers.specs.InnerChoosers.{Within}
 use Rattle.choosers.proofs.TurnLaws.{larger_within, turn_stop, turn_on, turn_end, larger_ge}
 use Rattle.choosers.proofs.samples.lower.Goals as goal
 

@@ -1,14 +1,10 @@
 -- `choosers::samples::lower` meets its contract.
 -- Assumes nothing.
-use mathlib.Core.Path.{◌≡◌, refl, sym, ◌∙◌}
-use Prim.Native.Nat.{◌-◌, ◌≤◌, ◌^◌}
-use native.Mathlib.Omega.{arith}
-use borrow.Author.Rules.{rules}
-use lib.ListN.{length-set, length}
-use lib.Seq.{get_or-set_other}
+use mathlib.Core.Path.{◌≡◌}
+use Prim.Native.Nat.{◌≤◌, ◌^◌}
+use lib.ListN.{length}
 use Rattle.choosers.specs.Choosers.{lower_at}
 use Rattle.choosers.specs.InnerChoosers.{Within}
-use Rattle.choosers.proofs.TurnLaws.{larger_within, turn_stop, turn_on, turn_end, larger_ge}
 use Rattle.choosers.proofs.samples.lower.Given as goal
 
 abbrev pub invariant-loop-i : goal.invariant-loop-i

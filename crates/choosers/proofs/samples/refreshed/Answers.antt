@@ -2,7 +2,6 @@
 -- Assumes nothing.
 use mathlib.Core.Path.{◌≡◌}
 use mathlib.Core.Logic.{⊎_elim}
-use borrow.Author.Rules.{rules}
 use Rattle.choosers.specs.Choosers.{g}
 use Rattle.choosers.proofs.samples.refreshed.Goals as goal
 

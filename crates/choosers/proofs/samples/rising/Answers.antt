@@ -1,10 +1,8 @@
 -- `choosers::samples::rising` meets its contract.
 -- Assumes nothing.
-use mathlib.Core.Path.{◌≡◌, refl, sym, ◌∙◌}
-use Prim.Native.Nat.{◌≤◌}
+use mathlib.Core.Path.{refl, sym, ◌∙◌}
 use native.Mathlib.Omega.{arith}
 use borrow.Author.Rules.{rules}
-use Rattle.choosers.specs.ChooserCalls.{ascends}
 use Rattle.choosers.proofs.CheckLaws.{rise_on, rise_stop, rise_end}
 use Rattle.choosers.proofs.samples.rising.Goals as goal
 

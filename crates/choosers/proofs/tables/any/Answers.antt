@@ -1,12 +1,9 @@
 -- `choosers::tables::any` meets its contract.
 -- Assumes nothing.
-use mathlib.Core.Path.{◌≡◌, ◌∙◌}
-use Prim.Native.Nat.{◌≤◌}
+use mathlib.Core.Path.{◌∙◌}
 use native.Mathlib.Omega.{arith}
 use borrow.Author.Rules.{rules}
-use lib.ListN.{length}
-use Rattle.choosers.specs.Slots.{actives}
-use Rattle.choosers.proofs.TableLaws.{active_below, active_all, any_hit, any_turn, any_end}
+use Rattle.choosers.proofs.TableLaws.{active_all, any_hit, any_turn, any_end}
 use Rattle.choosers.proofs.tables.any.Goals as goal
 
 pub loop-i-init : goal.loop-i-init

@@ -1,13 +1,10 @@
 -- `choosers::tables::full` meets its contract.
 -- Assumes nothing.
-use mathlib.Core.Path.{◌≡◌, sym}
+use mathlib.Core.Path.{◌≡◌}
 use Prim.Native.Nat.{◌-◌, ◌≤◌}
-use native.Mathlib.Omega.{arith}
-use borrow.Author.Rules.{rules}
 use lib.Dec.{leb}
 use lib.ListN.{take, drop}
 use Rattle.lists.specs.Lists.{every, not_below}
-use Rattle.choosers.proofs.TableLaws.{full_none, full_turn}
 use Rattle.choosers.proofs.tables.full.Given as goal
 
 abbrev pub invariant-loop-i : goal.invariant-loop-i

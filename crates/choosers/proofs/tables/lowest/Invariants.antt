@@ -1,10 +1,7 @@
 -- `choosers::tables::lowest` meets its contract.
 -- Assumes nothing.
 use Prim.Native.Nat.{◌-◌, ◌≤◌}
-use native.Mathlib.Omega.{arith}
-use borrow.Author.Rules.{rules}
 use Rattle.choosers.specs.Slots.{vacant}
-use Rattle.choosers.proofs.TableLaws.{vacant_hit, vacant_turn, vacant_end}
 use Rattle.choosers.proofs.tables.lowest.Given as goal
 
 abbrev pub invariant-loop-x : goal.invariant-loop-x

@@ -1,10 +1,7 @@
 -- `choosers::tables::past_full` meets its contract.
 -- Assumes nothing.
 use mathlib.Core.Path.{sym, ◌∙◌}
-use Prim.Native.Nat.{◌-◌, ◌≤◌}
 use borrow.Author.Rules.{rules}
-use borrow.Author.Tests.{not-false}
-use Rattle.choosers.specs.Slots.{vacant}
 use Rattle.choosers.proofs.TableLaws.{vacant_past}
 use Rattle.choosers.proofs.tables.past_full.Goals as goal
 

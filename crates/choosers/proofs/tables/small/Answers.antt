@@ -1,13 +1,8 @@
 -- `choosers::tables::small` meets its contract.
 -- Assumes nothing.
 use mathlib.Core.Path.{◌≡◌, sym}
-use Prim.Native.Nat.{◌-◌, ◌≤◌}
 use native.Mathlib.Omega.{arith}
 use borrow.Author.Rules.{rules}
-use lib.Dec.{leb}
-use lib.ListN.{take}
-use Rattle.lists.specs.Lists.{every}
-use Rattle.choosers.specs.SlotCalls.{at_most_one}
 use Rattle.choosers.proofs.TableLaws.{small_none, small_turn}
 use Rattle.choosers.proofs.tables.small.Goals as goal
 

@@ -1,11 +1,8 @@
 -- `choosers::tables::sum` meets its contract.
 -- Assumes nothing.
-use mathlib.Core.Path.{◌≡◌, refl, ap, ◌∙◌}
+use mathlib.Core.Path.{◌≡◌}
 use Prim.Native.Nat.{◌-◌, ◌≤◌}
-use native.Mathlib.Omega.{arith}
-use borrow.Author.Rules.{rules}
-use lib.ListN.{get_or}
-use Rattle.choosers.proofs.TableLaws.{active_below, active_all, byte_small, sum_turn}
+use Rattle.choosers.proofs.TableLaws.{active_below}
 use Rattle.choosers.proofs.tables.sum.Given as goal
 
 abbrev pub invariant-loop-i : goal.invariant-loop-i

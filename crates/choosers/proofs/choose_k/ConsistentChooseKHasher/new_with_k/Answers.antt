@@ -1,7 +1,6 @@
 -- `choosers::choose_k::ConsistentChooseKHasher::new_with_k` meets its contract.
 -- Assumes nothing.
 use borrow.Author.Tests.{lt-ltb, le-ltb}
-use borrow.Author.Rules.{rules}
 use Rattle.choosers.specs.ChooserCalls.{new_with_kCall}
 use Rattle.choosers.proofs.choose_k.ConsistentChooseKHasher.new_with_k.Goals as goal
 

@@ -4,7 +4,6 @@ use mathlib.Core.Path.{◌≡◌, sym, ap, ◌∙◌}
 use mathlib.Core.Bool.{true}
 use Prim.Native.Nat.{◌-◌}
 use native.Mathlib.Omega.{arith}
-use borrow.Author.Tests.{not-true, not-false}
 use borrow.Author.Rules.{rules}
 use Rattle.choosers.specs.ChooserCalls.{placed, fitting, shrink_call}
 use Rattle.choosers.proofs.CheckLaws.{fits_parts, sample-below, samples-within}

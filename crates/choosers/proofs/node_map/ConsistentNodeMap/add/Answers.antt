@@ -3,8 +3,6 @@
 use mathlib.Core.Path.{◌≡◌, sym, ◌∙◌}
 use mathlib.Core.Bool.{true}
 use native.Mathlib.Omega.{arith}
-use borrow.Author.Tests.{not-true, not-false}
-use borrow.Author.Rules.{rules}
 use Rattle.choosers.specs.SlotCalls.{fitting}
 use Rattle.choosers.proofs.SlotCallLaws.{fits_parts, add_unfit, add-vacant, add-full, add-limit, add-new}
 use Rattle.choosers.proofs.node_map.ConsistentNodeMap.add.Goals as goal

@@ -1,7 +1,6 @@
 -- `choosers::node_map::ConsistentNodeMap::fits` meets its contract.
 -- Assumes nothing.
 use mathlib.Core.Path.{sym, ◌∙◌}
-use borrow.Author.Rules.{rules}
 use Rattle.choosers.proofs.SlotCallLaws.{fits_long, fits_high, fits_small}
 use Rattle.choosers.proofs.node_map.ConsistentNodeMap.fits.Goals as goal
 

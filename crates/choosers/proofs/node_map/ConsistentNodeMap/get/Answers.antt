@@ -4,8 +4,6 @@ use mathlib.Core.Path.{◌≡◌, refl, sym, ap, ◌∙◌}
 use mathlib.Core.Bool.{true}
 use Prim.Native.Nat.{◌≤◌, min}
 use native.Mathlib.Omega.{arith}
-use borrow.Author.Tests.{not-true, not-false}
-use borrow.Author.Rules.{rules}
 use lib.ListN.{length}
 use Rattle.choosers.specs.SlotCalls.{slot_limit, fitting, told_looked}
 use Rattle.choosers.proofs.SlotCallLaws.{fits_parts}
@@ -22,15 +20,15 @@ enough c = omega (arith, c.places.ensures)
 
 pub returns-then-not-fits : goal.returns-then-not-fits
 returns-then-not-fits c = record {
-      result_value = sym (get_unfit _ _ _ _ (sym c.fits.ensures ∙ c.if-not-fits.true));
-      scratch_after = refl;
-    }
+  result_value = sym (get_unfit _ _ _ _ (sym c.fits.ensures ∙ c.if-not-fits.true));
+  scratch_after = refl;
+}
 
 pub returns-then-scratch-places : goal.returns-then-scratch-places
 returns-then-scratch-places c = record {
-      result_value = sym (get-short _ _ _ _ (ok (goal.at.returns-then-scratch-places c).Else-not-fits) (omega (arith, c.places.ensures)));
-      scratch_after = refl;
-    }
+  result_value = sym (get-short _ _ _ _ (ok (goal.at.returns-then-scratch-places c).Else-not-fits) (omega (arith, c.places.ensures)));
+  scratch_after = refl;
+}
 
 pub any-requires : goal.any-requires
 any-requires c = (fits_parts _ _ (ok (goal.at.any-requires c).Else-not-fits)).count_le

@@ -2,8 +2,6 @@
 -- Assumes nothing.
 use mathlib.Core.Path.{◌≡◌, sym, ap, ◌∙◌}
 use mathlib.Core.Bool.{Bool, true, not, not-not}
-use borrow.Author.Tests.{not-true, not-false}
-use borrow.Author.Rules.{rules}
 use Rattle.lists.specs.Told.{says}
 use Rattle.choosers.specs.SlotCalls.{fitting}
 use Rattle.choosers.proofs.SlotCallLaws.{fits_parts, query_unfit, query_fit}

@@ -3,8 +3,6 @@
 use mathlib.Core.Path.{◌≡◌, sym, ◌∙◌}
 use mathlib.Core.Bool.{true}
 use native.Mathlib.Omega.{arith}
-use borrow.Author.Tests.{not-true, not-false}
-use borrow.Author.Rules.{rules}
 use Rattle.choosers.specs.SlotCalls.{fitting}
 use Rattle.choosers.proofs.TableLaws.{active_over, active_no, active_yes}
 use Rattle.choosers.proofs.SlotCallLaws.{fits_parts, remove-unfit, remove-none, remove-last, remove-other}
