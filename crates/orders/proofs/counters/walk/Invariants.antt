@@ -1,0 +1,17 @@
+-- `orders::counters::walk` meets its contract.
+-- Assumes nothing.
+use mathlib.Core.Path.{◌≡◌, sym, ap, ◌∙◌}
+use Prim.Native.Nat.{ℕ, ◌-◌}
+use native.Mathlib.Omega.{arith}
+use borrow.Author.Rules.{rules}
+use Rattle.layers.specs.Layer
+use Rattle.orders.specs.InnerCounters.{seek, walk_of}
+use Rattle.orders.proofs.LogLaws.{size_in}
+use Rattle.orders.proofs.NextLaws.{seek_hit, seek_miss, seek_none}
+use Rattle.orders.proofs.counters.walk.Given as goal
+
+abbrev pub invariant-loop-x : goal.invariant-loop-x
+invariant-loop-x l = (l.size ≡ Rattle.layers.specs.Layer.size l.j) × (seek l.key l.j l.n l.x (l.size - l.x) ≡ walk_of l.key l.j l.n l.from)
+
+abbrev pub decreases-loop-x : goal.decreases-loop-x
+decreases-loop-x l = l.size - l.x
