@@ -2,7 +2,6 @@
 -- Assumes nothing.
 use native.Mathlib.Omega.{arith}
 use borrow.Author.Tests.{lt-ltb, le-ltb, eq-eqb, ne_eqb}
-use borrow.Author.Rules.{rules}
 use Rattle.layers.specs.Layer.{size}
 use Rattle.orders.specs.InnerPasses.{close_of}
 use Rattle.orders.proofs.checks.closes.Goals as goal

@@ -2,7 +2,6 @@
 -- Assumes nothing.
 use native.Mathlib.Omega.{arith}
 use borrow.Author.Tests.{lt-leb, le-leb}
-use borrow.Author.Rules.{rules}
 use Rattle.layers.specs.Layer.{size}
 use Rattle.orders.specs.InnerPasses.{shape_of}
 use Rattle.orders.proofs.checks.shaped.Goals as goal

@@ -1,11 +1,8 @@
 -- `orders::checks::survey_list` meets its contract.
 -- Assumes nothing.
-use mathlib.Core.Path.{◌≡◌, refl}
-use Prim.Native.Nat.{◌+◌, ◌-◌, ◌^◌, ◌≤◌}
+use mathlib.Core.Path.{refl}
 use native.Mathlib.Omega.{arith}
-use borrow.Author.Rules.{rules}
-use lib.ListN.{length, take, drop, get_or}
-use Rattle.orders.specs.InnerPasses.{surveyed, survey_of}
+use lib.ListN.{get_or}
 use Rattle.orders.proofs.SurveyLaws.{survey_near, survey_turn, survey_done, step_le, closer_le}
 use Rattle.orders.proofs.checks.survey_list.Goals as goal
 

@@ -1,12 +1,9 @@
 -- `orders::checks::survey_list` meets its contract.
 -- Assumes nothing.
-use mathlib.Core.Path.{◌≡◌, refl}
+use mathlib.Core.Path.{◌≡◌}
 use Prim.Native.Nat.{◌+◌, ◌-◌, ◌^◌, ◌≤◌}
-use native.Mathlib.Omega.{arith}
-use borrow.Author.Rules.{rules}
-use lib.ListN.{length, take, drop, get_or}
+use lib.ListN.{length, take, drop}
 use Rattle.orders.specs.InnerPasses.{surveyed, survey_of}
-use Rattle.orders.proofs.SurveyLaws.{survey_near, survey_turn, survey_done, step_le, closer_le}
 use Rattle.orders.proofs.checks.survey_list.Given as goal
 
 abbrev pub invariant-loop-i : goal.invariant-loop-i

@@ -5,7 +5,6 @@ use mathlib.Core.List.{List}
 use mathlib.Core.Option.{some}
 use Prim.Native.Nat.{ℕ, ◌-◌}
 use native.Mathlib.Omega.{arith}
-use borrow.Author.Rules.{rules}
 use Rattle.lists.specs.Told.{says}
 use Rattle.orders.specs.OrderCalls.{order_of, key_of, step}
 use Rattle.orders.proofs.CounterLaws.{within_limit}

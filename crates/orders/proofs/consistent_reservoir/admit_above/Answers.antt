@@ -1,7 +1,6 @@
 -- `orders::consistent_reservoir::admit_above` meets its contract.
 -- Assumes nothing.
 use native.Mathlib.Omega.{arith}
-use borrow.Author.Rules.{rules}
 use Rattle.orders.proofs.AdmitLaws.{above_pos, above_fit, above_v, above_k, end-le, end-rank, above-refused, above-done}
 use Rattle.orders.proofs.consistent_reservoir.admit_above.Goals as goal
 

@@ -1,7 +1,6 @@
 -- `orders::consistent_reservoir::admit_here` meets its contract.
 -- Assumes nothing.
 use native.Mathlib.Omega.{arith}
-use borrow.Author.Rules.{rules}
 use Rattle.orders.proofs.CheckLaws.{fits_parts}
 use Rattle.orders.proofs.AdmitLaws.{here_v, here_done}
 use Rattle.orders.proofs.consistent_reservoir.admit_here.Goals as goal

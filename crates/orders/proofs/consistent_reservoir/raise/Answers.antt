@@ -1,7 +1,6 @@
 -- `orders::consistent_reservoir::raise` meets its contract.
 -- Assumes nothing.
 use native.Mathlib.Omega.{arith}
-use borrow.Author.Rules.{rules}
 use Rattle.orders.proofs.AdmitLaws.{raise_fit, raise_rank, raise_refused, raise_done}
 use Rattle.orders.proofs.consistent_reservoir.raise.Goals as goal
 

@@ -2,7 +2,6 @@
 -- Assumes nothing.
 use mathlib.Core.Path.{ap, ◌∙◌}
 use Prim.Native.Nat.{ℕ, ◌+◌}
-use borrow.Author.Rules.{rules}
 use lib.ListN.{set}
 use Rattle.orders.specs.Orders.{counted}
 use Rattle.orders.specs.InnerCounters.{held}

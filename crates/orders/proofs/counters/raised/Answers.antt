@@ -1,10 +1,9 @@
 -- `orders::counters::raised` meets its contract.
 -- Assumes nothing.
-use mathlib.Core.Path.{refl, ◌≡◌, sym, ap, ◌∙◌}
+use mathlib.Core.Path.{refl, sym, ap, ◌∙◌}
 use mathlib.Core.List.{List}
-use Prim.Native.Nat.{◌+◌, ℕ, ◌-◌, ◌≤◌, ◌<◌}
+use Prim.Native.Nat.{◌+◌, ℕ, ◌-◌}
 use native.Mathlib.Omega.{arith}
-use Rattle.orders.specs.Orders.{counter}
 use Rattle.orders.specs.InnerCounters.{raises}
 use Rattle.orders.specs.declared.counters.Held.{Held}
 use Rattle.orders.proofs.CounterLaws.{small_start, small_turn, raise_start, raise_turn, raise_end}

@@ -1,13 +1,9 @@
 -- `orders::counters::raised` meets its contract.
 -- Assumes nothing.
-use mathlib.Core.Path.{refl, ◌≡◌, sym, ap, ◌∙◌}
-use mathlib.Core.List.{List}
-use Prim.Native.Nat.{◌+◌, ℕ, ◌-◌, ◌≤◌, ◌<◌}
-use native.Mathlib.Omega.{arith}
+use mathlib.Core.Path.{◌≡◌}
+use Prim.Native.Nat.{ℕ, ◌-◌, ◌≤◌, ◌<◌}
 use Rattle.orders.specs.Orders.{counter}
 use Rattle.orders.specs.InnerCounters.{raises}
-use Rattle.orders.specs.declared.counters.Held.{Held}
-use Rattle.orders.proofs.CounterLaws.{small_start, small_turn, raise_start, raise_turn, raise_end}
 use Rattle.orders.proofs.counters.raised.Given as goal
 
 abbrev pub invariant-loop-i : goal.invariant-loop-i

@@ -1,13 +1,9 @@
 -- `orders::counters::walk` meets its contract.
 -- Assumes nothing.
-use mathlib.Core.Path.{◌≡◌, sym, ap, ◌∙◌}
-use Prim.Native.Nat.{ℕ, ◌-◌}
-use native.Mathlib.Omega.{arith}
-use borrow.Author.Rules.{rules}
+use mathlib.Core.Path.{◌≡◌}
+use Prim.Native.Nat.{◌-◌}
 use Rattle.layers.specs.Layer
 use Rattle.orders.specs.InnerCounters.{seek, walk_of}
-use Rattle.orders.proofs.LogLaws.{size_in}
-use Rattle.orders.proofs.NextLaws.{seek_hit, seek_miss, seek_none}
 use Rattle.orders.proofs.counters.walk.Given as goal
 
 abbrev pub invariant-loop-x : goal.invariant-loop-x

@@ -1,7 +1,6 @@
 -- `orders::counters::within_sizes` meets its contract.
 -- Assumes nothing.
 use mathlib.Core.Path.{◌∙◌}
-use borrow.Author.Rules.{rules}
 use Rattle.orders.proofs.CounterLaws.{fitting_last, fitting_more, fitting_all}
 use Rattle.orders.proofs.counters.within_sizes.Goals as goal
 

@@ -5,10 +5,8 @@ use Prim.Native.Nat.{◌+◌, ◌-◌, ◌^◌, ◌<◌, ◌≤◌}
 use native.Mathlib.Omega.{arith}
 use borrow.Author.Rules.{rules}
 use lib.ListN.{length}
-use Rattle.lists.proofs.Writing.{part}
-use Rattle.layers.specs.Layer.{size, layer}
-use Rattle.layers.specs.KeyedLayers.{keyed_layer}
-use Rattle.orders.specs.InnerPasses.{rank_of, laid_of}
+use Rattle.layers.specs.Layer.{layer}
+use Rattle.orders.specs.InnerPasses.{rank_of}
 use Rattle.orders.proofs.LogLaws.{size_in}
 use Rattle.orders.proofs.CoverLaws.{rank_le, length-laid, turn_length, yes_rank, no_rank, yes_list, no_list, cover_start, part_zero}
 use Rattle.orders.proofs.fills.cover.Goals as goal

@@ -1,12 +1,10 @@
 -- `orders::fills::gather` meets its contract.
 -- Assumes nothing.
 use mathlib.Core.Path.{◌≡◌, refl, ap, ◌∙◌}
-use Prim.Native.Nat.{◌-◌, ◌<◌, ◌≤◌}
+use Prim.Native.Nat.{◌<◌}
 use native.Mathlib.Omega.{arith}
-use borrow.Author.Rules.{rules}
-use lib.ListN.{length, take}
-use Rattle.lists.specs.Lists.{count_below}
-use Rattle.orders.proofs.GatherLaws.{gathered, yes_room, yes_count, yes_list, no_count, no_list, gathered_length, count_fits, gathered_done}
+use lib.ListN.{length}
+use Rattle.orders.proofs.GatherLaws.{yes_room, yes_count, yes_list, no_count, no_list, gathered_length, count_fits, gathered_done}
 use Rattle.orders.proofs.fills.gather.Goals as goal
 use Rattle.orders.proofs.fills.gather.Goals.{At-loop-i, Then-x-n}
 

@@ -1,6 +1,5 @@
 -- `orders::fills::start` meets its contract.
 -- Assumes nothing.
-use borrow.Author.Rules.{rules}
 use Rattle.orders.proofs.PlacedLaws.{start_yes, start_no}
 use Rattle.orders.proofs.fills.start.Goals as goal
 

@@ -1,15 +1,12 @@
 -- `orders::scans::ended` meets its contract.
 -- Assumes nothing.
 use mathlib.Core.Path.{◌≡◌, sym, ◌∙◌}
-use Prim.Native.Nat.{◌+◌, ◌-◌, ◌≤◌}
+use Prim.Native.Nat.{◌-◌}
 use native.Mathlib.Omega.{arith}
 use borrow.Author.Rules.{rules}
 use lib.ListN.{get_or}
-use Rattle.lists.specs.Lists.{below, standing}
 use Rattle.lists.proofs.Tests.{below_yes, below_no}
 use Rattle.lists.proofs.Standing.{standing_stop, standing_go, standing_end}
-use Rattle.layers.specs.Layer.{size}
-use Rattle.layers.specs.KeyedLayers.{keyed_layer}
 use Rattle.orders.specs.Reservoirs.{outputs}
 use Rattle.orders.proofs.ScanLaws.{output_at}
 use Rattle.orders.proofs.scans.ended.Goals as goal

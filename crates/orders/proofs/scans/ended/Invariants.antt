@@ -1,17 +1,11 @@
 -- `orders::scans::ended` meets its contract.
 -- Assumes nothing.
-use mathlib.Core.Path.{◌≡◌, sym, ◌∙◌}
-use Prim.Native.Nat.{◌+◌, ◌-◌, ◌≤◌}
-use native.Mathlib.Omega.{arith}
-use borrow.Author.Rules.{rules}
-use lib.ListN.{get_or}
+use mathlib.Core.Path.{◌≡◌}
+use Prim.Native.Nat.{◌+◌, ◌≤◌}
 use Rattle.lists.specs.Lists.{below, standing}
-use Rattle.lists.proofs.Tests.{below_yes, below_no}
-use Rattle.lists.proofs.Standing.{standing_stop, standing_go, standing_end}
 use Rattle.layers.specs.Layer.{size}
 use Rattle.layers.specs.KeyedLayers.{keyed_layer}
 use Rattle.orders.specs.Reservoirs.{outputs}
-use Rattle.orders.proofs.ScanLaws.{output_at}
 use Rattle.orders.proofs.scans.ended.Given as goal
 
 abbrev pub invariant-loop-p : goal.invariant-loop-p

@@ -1,7 +1,6 @@
 -- `orders::scans::keyed_at` meets its contract.
 -- Assumes nothing.
 use mathlib.Core.Path.{ap}
-use borrow.Author.Rules.{rules}
 use Rattle.layers.specs.KeyedLayers.{told_keyed}
 use Rattle.orders.proofs.ScanLaws.{keyed_made, keyed_not}
 use Rattle.orders.proofs.scans.keyed_at.Goals as goal

@@ -3,7 +3,6 @@
 use mathlib.Core.Path.{sym}
 use Prim.Native.Nat.{◌-◌}
 use native.Mathlib.Omega.{arith}
-use borrow.Author.Rules.{rules}
 use Rattle.orders.proofs.LogLaws.{log2_leading, layer_low, layer_two}
 use Rattle.orders.proofs.scans.layer_of.Goals as goal
 

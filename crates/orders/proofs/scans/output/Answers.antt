@@ -1,6 +1,5 @@
 -- `orders::scans::output` meets its contract.
 -- Assumes nothing.
-use borrow.Author.Rules.{rules}
 use Rattle.layers.proofs.KeyedLaws.{keyed_layer_lem}
 use Rattle.orders.proofs.scans.output.Goals as goal
 

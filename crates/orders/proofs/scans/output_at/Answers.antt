@@ -1,7 +1,6 @@
 -- `orders::scans::output_at` meets its contract.
 -- Assumes nothing.
 use mathlib.Core.Path.{ap}
-use borrow.Author.Rules.{rules}
 use Rattle.layers.specs.Calls.{told}
 use Rattle.orders.proofs.ScanLaws.{output_made, output_not}
 use Rattle.orders.proofs.scans.output_at.Goals as goal

@@ -1,11 +1,6 @@
 -- `orders::scans::scan_layer` meets its contract.
 -- Assumes nothing.
-use mathlib.Core.Path.{◌≡◌}
-use Prim.Native.Nat.{◌-◌, ◌≤◌}
 use native.Mathlib.Omega.{arith}
-use borrow.Author.Rules.{rules}
-use Rattle.layers.specs.Layer.{size}
-use Rattle.orders.specs.InnerPasses.{outs, scanned, scan_of}
 use Rattle.orders.proofs.LogLaws.{size_in}
 use Rattle.orders.proofs.ScanLaws.{keyed_size, scan_start, scan_full, scan_turn, scan_done}
 use Rattle.orders.proofs.scans.scan_layer.Goals as goal

@@ -2,7 +2,6 @@
 -- Assumes nothing.
 use mathlib.Core.Path.{ap, ◌∙◌}
 use Prim.Native.Nat.{ℕ}
-use borrow.Author.Rules.{rules}
 use Rattle.orders.specs.InnerPasses.{scan_of}
 use Rattle.orders.proofs.scans.scan_zeros.Goals as goal
 

@@ -1,11 +1,7 @@
 -- `orders::scans::trimmed` meets its contract.
 -- Assumes nothing.
-use mathlib.Core.Path.{◌≡◌, sym, ◌∙◌}
-use Prim.Native.Nat.{◌+◌, ◌≤◌}
+use mathlib.Core.Path.{sym, ◌∙◌}
 use native.Mathlib.Omega.{arith}
-use borrow.Author.Rules.{rules}
-use lib.ListN.{length}
-use Rattle.lists.specs.Lists.{below, standing}
 use Rattle.lists.proofs.Tests.{below_yes, below_no}
 use Rattle.lists.proofs.Standing.{standing_stop, standing_go, standing_end}
 use Rattle.orders.proofs.scans.trimmed.Goals as goal

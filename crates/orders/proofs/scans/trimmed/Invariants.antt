@@ -1,13 +1,9 @@
 -- `orders::scans::trimmed` meets its contract.
 -- Assumes nothing.
-use mathlib.Core.Path.{◌≡◌, sym, ◌∙◌}
+use mathlib.Core.Path.{◌≡◌}
 use Prim.Native.Nat.{◌+◌, ◌≤◌}
-use native.Mathlib.Omega.{arith}
-use borrow.Author.Rules.{rules}
 use lib.ListN.{length}
 use Rattle.lists.specs.Lists.{below, standing}
-use Rattle.lists.proofs.Tests.{below_yes, below_no}
-use Rattle.lists.proofs.Standing.{standing_stop, standing_go, standing_end}
 use Rattle.orders.proofs.scans.trimmed.Given as goal
 
 abbrev pub invariant-loop-p : goal.invariant-loop-p

@@ -1,11 +1,7 @@
 -- `orders::scans::wider_than` meets its contract.
 -- Assumes nothing.
-use mathlib.Core.Path.{◌≡◌}
-use Prim.Native.Nat.{◌-◌, ◌≤◌}
 use native.Mathlib.Omega.{arith}
-use Rattle.lists.specs.Lists.{first_from}
-use Rattle.orders.specs.Reservoirs.{wider}
-use Rattle.orders.proofs.WideLaws.{more_than, wider_start, wider_here, wider_go, wider_none}
+use Rattle.orders.proofs.WideLaws.{wider_start, wider_here, wider_go, wider_none}
 use Rattle.orders.proofs.scans.wider_than.Goals as goal
 
 pub loop-i-init : goal.loop-i-init

@@ -2,10 +2,9 @@
 -- Assumes nothing.
 use mathlib.Core.Path.{◌≡◌}
 use Prim.Native.Nat.{◌-◌, ◌≤◌}
-use native.Mathlib.Omega.{arith}
 use Rattle.lists.specs.Lists.{first_from}
 use Rattle.orders.specs.Reservoirs.{wider}
-use Rattle.orders.proofs.WideLaws.{more_than, wider_start, wider_here, wider_go, wider_none}
+use Rattle.orders.proofs.WideLaws.{more_than}
 use Rattle.orders.proofs.scans.wider_than.Given as goal
 
 abbrev pub invariant-loop-i : goal.invariant-loop-i

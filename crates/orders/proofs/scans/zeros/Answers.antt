@@ -1,13 +1,7 @@
 -- `orders::scans::zeros` meets its contract.
 -- Assumes nothing.
-use mathlib.Core.Path.{◌≡◌}
-use Prim.Native.Nat.{◌+◌, ◌-◌, ◌^◌, ◌≤◌}
 use native.Mathlib.Omega.{arith}
 use borrow.Author.Rules.{rules}
-use Rattle.lists.specs.Lists.{count_below}
-use Rattle.layers.specs.Layer.{size}
-use Rattle.layers.specs.KeyedLayers.{keyed_layer}
-use Rattle.orders.specs.InnerPasses.{outs, rank_of}
 use Rattle.orders.proofs.LogLaws.{size_in}
 use Rattle.orders.proofs.ScanLaws.{rank_start, rank_turn, rank_done}
 use Rattle.orders.proofs.SurveyLaws.{step_le}

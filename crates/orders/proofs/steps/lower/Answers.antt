@@ -1,7 +1,6 @@
 -- `orders::steps::lower` meets its contract.
 -- Assumes nothing.
 use borrow.Author.Tests.{lt-ltb, le-ltb}
-use borrow.Author.Rules.{rules}
 use Rattle.orders.proofs.steps.lower.Goals as goal
 
 pub returns-then-y-bound : goal.returns-then-y-bound

@@ -3,8 +3,6 @@
 use mathlib.Core.Path.{◌≡◌, sym, ◌∙◌}
 use mathlib.Core.Bool.{true}
 use native.Mathlib.Omega.{arith}
-use borrow.Author.Tests.{not-true, not-false}
-use borrow.Author.Rules.{rules}
 use Rattle.orders.specs.OrderCalls.{within}
 use Rattle.orders.proofs.LogLaws.{layer_in}
 use Rattle.orders.proofs.NextLaws.{next_unfit, next_above, next_empty, next_first}

@@ -1,6 +1,5 @@
 -- `orders::consistent_reservoir::ConsistentReservoir::fits` meets its contract.
 -- Assumes nothing.
-use borrow.Author.Rules.{rules}
 use Rattle.orders.proofs.CheckLaws.{fits_is}
 use Rattle.orders.proofs.consistent_reservoir.ConsistentReservoir.fits.Goals as goal
 

@@ -3,7 +3,6 @@
 use Prim.Native.Nat.{◌^◌}
 use native.Mathlib.Omega.{arith}
 use borrow.Author.Tests.{lt-ltb, le-ltb, eq-eqb, ne_eqb}
-use borrow.Author.Rules.{rules}
 use Rattle.orders.specs.ReservoirCalls.{open_call}
 use Rattle.orders.proofs.LogLaws.{layer_in}
 use Rattle.orders.proofs.OpenLaws.{open_few, open_layer, open_fit, open_refused, open_done}

@@ -4,7 +4,6 @@ use mathlib.Core.Path.{◌≡◌, sym, ◌∙◌}
 use mathlib.Core.Bool.{true}
 use native.Mathlib.Omega.{arith}
 use borrow.Author.Tests.{not-true, not-false}
-use borrow.Author.Rules.{rules}
 use Rattle.orders.specs.ReservoirCalls.{fitting}
 use Rattle.orders.proofs.CheckLaws.{fits_is, fits_parts, low_is}
 use Rattle.orders.proofs.WideLaws.{found_none}

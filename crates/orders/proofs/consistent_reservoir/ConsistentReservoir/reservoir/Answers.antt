@@ -4,7 +4,6 @@ use mathlib.Core.Path.{◌≡◌, sym, ◌∙◌}
 use mathlib.Core.Bool.{true}
 use native.Mathlib.Omega.{arith}
 use borrow.Author.Tests.{not-true, not-false}
-use borrow.Author.Rules.{rules}
 use Rattle.orders.specs.ReservoirCalls.{sample, fitting}
 use Rattle.orders.proofs.CheckLaws.{Fits, fits_is, fits_parts}
 use Rattle.orders.proofs.OpenLaws.{sample_unfit, sample_short, sample_done}
