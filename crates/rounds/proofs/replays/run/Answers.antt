@@ -8,11 +8,11 @@ use Rattle.rounds.proofs.ReplayTurns.{run_is, run_scratch}
 use Rattle.rounds.proofs.replays.run.Goals as goal
 
 pub overflow_mul-calls : goal.overflow_mul-calls
-overflow_mul-calls c = omega (arith, start c.before.before.before.before.before.before.before.before.before.before.before.before.before.before.before.before.before.before.before)
+overflow_mul-calls c = omega arith
 
 pub put-requires : goal.put-requires
 put-requires c =
-    omega (arith, c.requires, c.run_calls-s.kept.1.1.1.1.0)
+    omega (arith, c.requires, c.run_calls-s.auto.answers)
 
 pub returns : goal.returns
 returns c =
@@ -20,5 +20,5 @@ returns c =
       terminals_after = run_is (state a.r a.list.now a.table.now) a.calls.now c.run_calls-s.result _ _ _ _ _ _ _ c.plan-o.result c.of_outcome.result _ _ _
           c.run_calls-s.ensures.table_after c.run_calls-s.ensures.answers_after c.plan-o.ensures.terminals_after c.of_outcome.ensures c.put.ensures;
       scratch_run = run_scratch (length a.calls.now) c.plan-o.result c.of_outcome.result _ _ _ _
-          (omega (arith, c.requires, c.run_calls-s.kept.1.1.1.1.0)) c.of_outcome.ensures c.put.ensures c.plan-o.ensures.scratch_after;
+          (omega (arith, c.requires, c.run_calls-s.auto.answers)) c.of_outcome.ensures c.put.ensures c.plan-o.ensures.scratch_after;
     }

@@ -1,0 +1,40 @@
+-- `lines::commands::alone` meets its contract.
+-- Assumes nothing.
+use mathlib.Core.Path.{◌≡◌, sym, ◌∙◌}
+use mathlib.Core.Bool.{false}
+use mathlib.Core.List.{List}
+use Prim.Native.Nat.{ℕ}
+use borrow.Author.Rules.{rules}
+use Rattle.lines.specs.Lines.{alike}
+use Rattle.lines.specs.Commands.{admit_word, join_word, word_alone}
+use Rattle.lines.proofs.commands.alone.Goals as goal
+use Rattle.lines.proofs.commands.alone.Goals.{After-same, Else-same, Else-same-2}
+
+abbrev word : After-same → List ℕ
+word c = c.args.w.now
+
+-- it is not admit,
+not-admit : (c : Else-same) → alike (word c.before) admit_word ≡ false
+not-admit c = sym c.same.ensures ∙ c.if-same.false
+
+-- nor join
+not-join : (c : Else-same-2) → alike (word c.before.before.before.before) join_word ≡ false
+not-join c = sym c.same-2.ensures ∙ c.if-same-2.false
+
+pub returns-then-same : goal.returns-then-same
+unfolding word_alone
+returns-then-same c = rw (sym c.same.ensures ∙ c.if-same.true)
+
+pub returns-then-same-2 : goal.returns-then-same-2
+unfolding word_alone
+returns-then-same-2 c = rw (not-admit (goal.at.returns-then-same-2 c).Else-same, sym c.same-2.ensures ∙ c.if-same-2.true)
+
+pub returns-then-same-3 : goal.returns-then-same-3
+unfolding word_alone
+returns-then-same-3 c =
+    rw (not-admit (goal.at.returns-then-same-3 c).Else-same, not-join (goal.at.returns-then-same-3 c).Else-same-2, sym c.same-3.ensures ∙ c.if-same-3.true)
+
+pub returns : goal.returns
+unfolding word_alone
+returns c =
+    rw (not-admit (goal.at.returns c).Else-same, not-join (goal.at.returns c).Else-same-2, sym c.same-3.ensures ∙ c.if-same-3.false)
