@@ -16,6 +16,6 @@ returns-in-Open c =
     let call = c.plan in
     let given = c.in-Open.is in
     let out = c.plan_output in record {
-      scratch_after = plan_on _ _ _ _ _ _ _ _ call.result call.ensures.0 out.result out.ensures _ given;
-      printable = plan_prints _ _ _ _ _ _ _ _ call.result call.ensures.0 out.result out.ensures (omega arith) (omega arith);
+      scratch_after = plan_on _ _ _ _ _ _ _ _ call.result call.ensures.terminals_after out.result out.ensures _ given;
+      printable = plan_prints _ _ _ _ _ _ _ _ call.result call.ensures.terminals_after out.result out.ensures (omega arith) (omega arith);
     }

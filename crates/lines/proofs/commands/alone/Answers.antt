@@ -8,17 +8,14 @@ use borrow.Author.Rules.{rules}
 use Rattle.lines.specs.Lines.{alike}
 use Rattle.lines.specs.Commands.{admit_word, join_word, word_alone}
 use Rattle.lines.proofs.commands.alone.Goals as goal
-use Rattle.lines.proofs.commands.alone.Goals.{After-same, Else-same, Else-same-2}
-
-abbrev word : After-same → List ℕ
-word c = c.args.w.now
+use Rattle.lines.proofs.commands.alone.Goals.{Else-same, Else-same-2}
 
 -- it is not admit,
-not-admit : (c : Else-same) → alike (word c.before) admit_word ≡ false
+not-admit : (c : Else-same) → alike c.args.w.now admit_word ≡ false
 not-admit c = sym c.same.ensures ∙ c.if-same.false
 
 -- nor join
-not-join : (c : Else-same-2) → alike (word c.before.before.before.before) join_word ≡ false
+not-join : (c : Else-same-2) → alike c.args.w.now join_word ≡ false
 not-join c = sym c.same-2.ensures ∙ c.if-same-2.false
 
 pub returns-then-same : goal.returns-then-same

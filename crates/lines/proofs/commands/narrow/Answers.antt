@@ -6,14 +6,13 @@ use borrow.Author.Rules.{rules}
 use borrow.Author.Tests.{lt-ltb, le-ltb}
 use Rattle.lines.specs.declared.commands.Wide.TheVariants.{Number}
 use Rattle.lines.proofs.commands.narrow.Goals as goal
-use Rattle.lines.proofs.commands.narrow.Goals.{In-Number-2}
-
--- in its arm, v is a number
-is_number : (c : In-Number-2) → c.args.v ≡ Number c.in-Number.x
-is_number c = cc
 
 pub returns-then-x-lt4294967296 : goal.returns-then-x-lt4294967296
-returns-then-x-lt4294967296 c = rw (is_number (goal.at.returns-then-x-lt4294967296 c).In-Number-2, lt-ltb _ (2 ^ 32) c.if-x-lt4294967296.true)
+returns-then-x-lt4294967296 c =
+    let e : c.args.v ≡ Number c.in-Number.x = cc in
+    rw (e, lt-ltb _ (2 ^ 32) c.if-x-lt4294967296.true)
 
 pub returns-else-x-lt4294967296 : goal.returns-else-x-lt4294967296
-returns-else-x-lt4294967296 c = rw (is_number (goal.at.returns-else-x-lt4294967296 c).In-Number-2, le-ltb _ (2 ^ 32) c.if-x-lt4294967296.false)
+returns-else-x-lt4294967296 c =
+    let e : c.args.v ≡ Number c.in-Number.x = cc in
+    rw (e, le-ltb _ (2 ^ 32) c.if-x-lt4294967296.false)

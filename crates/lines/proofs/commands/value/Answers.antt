@@ -14,7 +14,7 @@ use Rattle.lines.proofs.commands.value.Goals.{Else-base-d}
 fits_word : (c : Else-base-d) → c.loop-i.sum * c.args.base + c.digit-d.result < 2 ^ 64
 fits_word c =
     let l = c.loop-i in
-    in_word l.sum _ _ l.i (omega arith) (omega arith) l.inv.1 (omega arith)
+    in_word l.sum _ _ l.i (omega arith) (omega arith) l.invariant.1 (omega arith)
 
 pub loop-i-init : goal.loop-i-init
 loop-i-init c = (omega arith, omega arith, refl)
@@ -35,8 +35,8 @@ loop-i-preserved c =
     let a = c.args in
     let l = c.loop-i in (
       omega arith,
-      more_digits l.sum a.base c.digit-d.result l.i (omega arith) (omega arith) l.inv.1,
-      rw c.digit-d.ensures (l.inv.2 ∙ value_turn a.f.now a.base l.sum l.i (omega arith) (omega arith)),
+      more_digits l.sum a.base c.digit-d.result l.i (omega arith) (omega arith) l.invariant.1,
+      rw c.digit-d.ensures (l.invariant.2 ∙ value_turn a.f.now a.base l.sum l.i (omega arith) (omega arith)),
     )
 
 pub returns : goal.returns

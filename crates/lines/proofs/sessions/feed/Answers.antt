@@ -44,7 +44,7 @@ pub returns : goal.returns
 returns c =
     let a = c.args in
     let call = c.take_lines-t in record {
-      out_after = feed-took _ a.line.now a.piece.now a.out.now a.session.held (omega (arith, c.if-held-gt81.left)) (omega (arith, c.if-line-held.left)) _ _ _ _ _ _ _ (omega arith)
-          (omega (arith, c.if-line-lt81.left)) (omega (arith, c.if-out-lt32.left, c.if-out-locations.left)) call.kept.1.1.0 call.ensures;
-      buffers_after = (call.kept.1.1.0, call.kept.1.1.1.1.1.1.1.0);
+      out_after = feed-took _ a.line.now a.piece.now a.out.now a.session.held (omega (arith, c.if-held-gt81.false)) (omega (arith, c.if-line-held.false)) _ _ _ _ _ _ _ (omega arith)
+          (omega (arith, c.if-line-lt81.false)) (omega (arith, c.if-out-lt32.false, c.if-out-locations.false)) call.auto.line call.ensures;
+      buffers_after = (call.auto.line, call.auto.scratch);
     }

@@ -21,14 +21,14 @@ pub overflow_add-taken : goal.overflow_add-taken
 overflow_add-taken c =
     let l = c.loop-taken in
     let piece = c.args.piece.now in
-    omega (arith, c.well_formed, c.take_line-r.ensures.inside, length-take (length piece - l.taken) (drop l.taken piece), c.loop-taken-test.taken)
+    omega (arith, c.well_formed, c.take_line-r.ensures.inside, length-take (length piece - l.taken) (drop l.taken piece), c.loop-taken-test.true)
 
 pub loop-taken-preserved : goal.loop-taken-preserved
 loop-taken-preserved c =
     let l = c.loop-taken in
     let piece = c.args.piece.now in
     let rest = take_all (length piece - l.taken) (drop l.taken piece) (simp length-drop (omega arith)) in
-    let more = going_more _ _ _ _ _ _ _ _ _ _ l.inv.7 _ _ _ _ _ _ _ (omega (arith, c.if-most-put.left)) rest c.take_line-r.ensures in
+    let more = going_more _ _ _ _ _ _ _ _ _ _ l.invariant.7 _ _ _ _ _ _ _ (omega (arith, c.if-most-put.false)) rest c.take_line-r.ensures in
     (search rules, search rules, search rules, search rules, search rules, search rules, search rules, more)
 
 pub returns : goal.returns

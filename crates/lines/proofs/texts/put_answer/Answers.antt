@@ -14,8 +14,7 @@ returns-in-Opened c =
 
 pub returns-in-Admitted : goal.returns-in-Admitted
 returns-in-Admitted c =
-    let v = c.answer-1.given.0 in
-    let e : c.args.answer ≡ answer.Admitted v.0 v.1.0 = cc in
+    let e : c.args.answer ≡ answer.Admitted c.in-Admitted.enters c.in-Admitted.leaves = cc in
     rw e c.put_admitted.ensures
 
 pub returns-in-Nothing : goal.returns-in-Nothing

@@ -48,9 +48,6 @@ overflow_sub-i-2 c = omega (arith, (room (goal.at.overflow_sub-i-2 c).At-loop-le
 pub bounds-out-i-2 : goal.bounds-out-i-2
 bounds-out-i-2 c = omega (arith, room (goal.at.bounds-out-i-2 c).At-loop-left, long (goal.at.bounds-out-i-2 c).At-loop-left)
 
-pub shape_of-out : goal.shape_of-out
-shape_of-out c = simp length-set (long (goal.at.shape_of-out c).At-loop-left)
-
 pub returns : goal.returns
 returns c =
     let l = c.loop-left in

@@ -12,7 +12,7 @@ use Rattle.lines.proofs.texts.put_output.Goals as goal
 pub put_plan-requires : goal.put_plan-requires
 put_plan-requires c =
     let e : c.args.output ≡ output.Plan c.in-Plan.k = cc in
-    let p = subst (λ (o : Output). Printable o c.args.locations.now c.args.terminals.now) e c.requires.1 in
+    let p = subst (λ (o : Output). Printable o c.args.locations.now c.args.terminals.now) e c.requires.printable in
     (p.0, p.1, omega arith)
 
 pub returns-in-Line : goal.returns-in-Line
