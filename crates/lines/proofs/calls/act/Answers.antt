@@ -1,7 +1,6 @@
 -- `lines::calls::act` meets its contract.
 -- Assumes nothing.
 use mathlib.Core.Path.{◌∙◌, refl}
-use borrow.Author.Rules.{rules}
 use Rattle.lines.proofs.ActLaws.{act-open, act-admit, act-join, act-withdraw, act_plan, act-refused}
 use Rattle.lines.proofs.calls.act.Goals as goal
 

@@ -1,6 +1,5 @@
 -- `lines::calls::admits` meets its contract.
 -- Assumes nothing.
-use borrow.Author.Rules.{rules}
 use Rattle.lines.proofs.LineLaws.{admit_none, admit-on}
 use Rattle.lines.proofs.calls.admits.Goals as goal
 

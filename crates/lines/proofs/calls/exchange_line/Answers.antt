@@ -1,7 +1,6 @@
 -- `lines::calls::exchange_line` meets its contract.
 -- Assumes nothing.
 use mathlib.Core.Path.{sym, ap}
-use borrow.Author.Rules.{rules}
 use Rattle.orders.specs.declared.consistent_reservoir.Exchange.{Exchange}
 use Rattle.orders.specs.ReservoirCalls.{told_exchange}
 use Rattle.lines.specs.Sessions.{replied, exchange_reply}

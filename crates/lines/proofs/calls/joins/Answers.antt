@@ -1,6 +1,5 @@
 -- `lines::calls::joins` meets its contract.
 -- Assumes nothing.
-use borrow.Author.Rules.{rules}
 use Rattle.lines.proofs.LineLaws.{join-none, join-on}
 use Rattle.lines.proofs.calls.joins.Goals as goal
 

@@ -1,6 +1,5 @@
 -- `lines::calls::opens` meets its contract.
 -- Assumes nothing.
-use borrow.Author.Rules.{rules}
 use Rattle.lines.proofs.LineLaws.{opens_made, opens_refused}
 use Rattle.lines.proofs.calls.opens.Goals as goal
 

@@ -1,7 +1,6 @@
 -- `lines::calls::outcome_line` meets its contract.
 -- Assumes nothing.
 use mathlib.Core.Path.{sym, ap}
-use borrow.Author.Rules.{rules}
 use Rattle.choosers.specs.declared.node_map.Outcome.{Outcome}
 use Rattle.choosers.specs.SlotCalls.{told_outcome}
 use Rattle.lines.specs.Replies.{withdrawn}

@@ -1,7 +1,6 @@
 -- `lines::calls::plan_output` meets its contract.
 -- Assumes nothing.
 use mathlib.Core.Path.{sym, ap}
-use borrow.Author.Rules.{rules}
 use Rattle.choosers.specs.declared.node_map.Outcome.{Outcome}
 use Rattle.lines.specs.InnerSessions.{outcome_of}
 use Rattle.lines.proofs.calls.plan_output.Goals as goal

@@ -1,15 +1,14 @@
 -- `lines::calls::plans` meets its contract.
 -- Assumes nothing.
 use native.Mathlib.Omega.{arith}
-use borrow.Author.Rules.{rules}
 use Rattle.lines.proofs.LineLaws.{plan_none, plan_on, plan_prints}
 use Rattle.lines.proofs.calls.plans.Goals as goal
 
 pub returns-in-Nothing : goal.returns-in-Nothing
 returns-in-Nothing c = record {
-      scratch_after = plan_none _ _ _ _ _ _ c.in-Nothing.is;
-      printable = tt;
-    }
+  scratch_after = plan_none _ _ _ _ _ _ c.in-Nothing.is;
+  printable = tt;
+}
 
 pub returns-in-Open : goal.returns-in-Open
 returns-in-Open c =

@@ -1,7 +1,6 @@
 -- `lines::calls::slot_line` meets its contract.
 -- Assumes nothing.
 use mathlib.Core.Path.{sym, ap}
-use borrow.Author.Rules.{rules}
 use Rattle.choosers.specs.declared.node_map.Slot.{Slot}
 use Rattle.choosers.specs.SlotCalls.{told_slot}
 use Rattle.lines.specs.Replies.{joined}

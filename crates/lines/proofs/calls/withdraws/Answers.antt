@@ -1,6 +1,5 @@
 -- `lines::calls::withdraws` meets its contract.
 -- Assumes nothing.
-use borrow.Author.Rules.{rules}
 use Rattle.lines.proofs.LineLaws.{withdraw-none, withdraw-on}
 use Rattle.lines.proofs.calls.withdraws.Goals as goal
 

@@ -2,7 +2,6 @@
 -- Assumes nothing.
 use mathlib.Core.Path.{sym}
 use Prim.Native.Nat.{◌+◌, ◌-◌}
-use borrow.Author.Rules.{rules}
 use lib.ListN.{length, take, drop}
 use Rattle.lines.proofs.CommandLaws.{cut_at, whole_at, many}
 use Rattle.lines.proofs.commands.after_three.Goals as goal

@@ -2,7 +2,6 @@
 -- Assumes nothing.
 use mathlib.Core.Path.{sym}
 use native.Mathlib.Omega.{arith}
-use borrow.Author.Rules.{rules}
 use lib.Seq.{length-take-le}
 use Rattle.lines.proofs.CommandLaws.{cut_at, whole_at}
 use Rattle.lines.proofs.commands.after_two.Goals as goal

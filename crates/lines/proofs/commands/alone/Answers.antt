@@ -2,9 +2,6 @@
 -- Assumes nothing.
 use mathlib.Core.Path.{◌≡◌, sym, ◌∙◌}
 use mathlib.Core.Bool.{false}
-use mathlib.Core.List.{List}
-use Prim.Native.Nat.{ℕ}
-use borrow.Author.Rules.{rules}
 use Rattle.lines.specs.Lines.{alike}
 use Rattle.lines.specs.Commands.{admit_word, join_word, word_alone}
 use Rattle.lines.proofs.commands.alone.Goals as goal

@@ -2,7 +2,6 @@
 -- Assumes nothing.
 use mathlib.Core.Path.{sym}
 use native.Mathlib.Omega.{arith}
-use borrow.Author.Rules.{rules}
 use Rattle.lines.proofs.CommandLaws.{digit_decimal, digit_upper, digit_lower, digit_low, digit_mid, digit_between, digit_high}
 use Rattle.lines.proofs.commands.digit.Goals as goal
 

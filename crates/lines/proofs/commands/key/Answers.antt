@@ -1,6 +1,5 @@
 -- `lines::commands::key` meets its contract.
 -- Assumes nothing.
-use borrow.Author.Rules.{rules}
 use borrow.Author.Tests.{eq-eqb, ne_eqb}
 use Rattle.lines.specs.Commands.{key_of}
 use Rattle.lines.proofs.commands.key.Goals as goal

@@ -1,7 +1,6 @@
 -- `lines::commands::number` meets its contract.
 -- Assumes nothing.
 use mathlib.Core.Path.{ap, ◌∙◌}
-use borrow.Author.Rules.{rules}
 use lib.ListN.{length}
 use Rattle.lines.specs.Commands.{number_of, below32}
 use Rattle.lines.proofs.CommandLaws.{inside, under, over}

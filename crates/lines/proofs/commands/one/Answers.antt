@@ -1,7 +1,6 @@
 -- `lines::commands::one` meets its contract.
 -- Assumes nothing.
 use mathlib.Core.Path.{sym, ap, ◌∙◌}
-use borrow.Author.Rules.{rules}
 use Rattle.lines.specs.Commands.{withdraw_form, word_and_one}
 use Rattle.lines.proofs.commands.one.Goals as goal
 

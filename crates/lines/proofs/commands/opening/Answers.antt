@@ -1,6 +1,5 @@
 -- `lines::commands::opening` meets its contract.
 -- Assumes nothing.
-use borrow.Author.Rules.{rules}
 use Rattle.lines.proofs.commands.opening.Goals as goal
 
 pub returns-in-Number-n : goal.returns-in-Number-n

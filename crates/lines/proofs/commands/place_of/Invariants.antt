@@ -2,11 +2,8 @@
 -- Assumes nothing.
 use mathlib.Core.Path.{◌≡◌}
 use Prim.Native.Nat.{◌+◌, ◌-◌, ◌≤◌}
-use native.Mathlib.Omega.{arith}
-use borrow.Author.Rules.{rules}
 use lib.ListN.{length, drop}
 use Rattle.lines.specs.InnerLines.{place_of}
-use Rattle.lines.proofs.CommandLaws.{place_turn, place_stop, place_end}
 use Rattle.lines.proofs.commands.place_of.Given as goal
 
 abbrev pub invariant-loop-i : goal.invariant-loop-i

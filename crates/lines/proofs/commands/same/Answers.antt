@@ -1,11 +1,7 @@
 -- `lines::commands::same` meets its contract.
 -- Assumes nothing.
-use mathlib.Core.Path.{◌≡◌, refl, sym, ◌∙◌}
-use Prim.Native.Nat.{◌-◌, ◌≤◌}
+use mathlib.Core.Path.{refl, sym, ◌∙◌}
 use native.Mathlib.Omega.{arith}
-use borrow.Author.Rules.{rules}
-use lib.ListN.{length, drop}
-use Rattle.lines.specs.Lines.{alike}
 use Rattle.lines.proofs.CommandLaws.{alike_length, alike_turn, alike_stop, alike_end}
 use Rattle.lines.proofs.commands.same.Goals as goal
 

@@ -1,12 +1,9 @@
 -- `lines::commands::same` meets its contract.
 -- Assumes nothing.
-use mathlib.Core.Path.{◌≡◌, refl, sym, ◌∙◌}
+use mathlib.Core.Path.{◌≡◌}
 use Prim.Native.Nat.{◌-◌, ◌≤◌}
-use native.Mathlib.Omega.{arith}
-use borrow.Author.Rules.{rules}
 use lib.ListN.{length, drop}
 use Rattle.lines.specs.Lines.{alike}
-use Rattle.lines.proofs.CommandLaws.{alike_length, alike_turn, alike_stop, alike_end}
 use Rattle.lines.proofs.commands.same.Given as goal
 
 abbrev pub invariant-loop-i : goal.invariant-loop-i

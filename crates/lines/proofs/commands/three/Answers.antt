@@ -1,7 +1,6 @@
 -- `lines::commands::three` meets its contract.
 -- Assumes nothing.
 use mathlib.Core.Path.{sym, ◌∙◌}
-use borrow.Author.Rules.{rules}
 use Rattle.lines.specs.Commands.{word_and_three}
 use Rattle.lines.proofs.commands.three.Goals as goal
 

@@ -1,11 +1,8 @@
 -- `lines::commands::value` meets its contract.
 -- Assumes nothing.
-use mathlib.Core.Path.{◌≡◌, refl, sym, ◌∙◌}
-use Prim.Native.Nat.{◌+◌, ◌-◌, ◌*◌, ◌^◌, ◌≤◌, ◌<◌}
+use mathlib.Core.Path.{refl, sym, ◌∙◌}
+use Prim.Native.Nat.{◌+◌, ◌*◌, ◌^◌, ◌<◌}
 use native.Mathlib.Omega.{arith}
-use borrow.Author.Rules.{rules}
-use lib.ListN.{length, drop}
-use Rattle.lines.specs.Commands.{value_of}
 use Rattle.lines.proofs.CommandLaws.{value_turn, value_stop, value_end, more_digits, in_word}
 use Rattle.lines.proofs.commands.value.Goals as goal
 use Rattle.lines.proofs.commands.value.Goals.{Else-base-d}

@@ -1,12 +1,9 @@
 -- `lines::commands::value` meets its contract.
 -- Assumes nothing.
-use mathlib.Core.Path.{◌≡◌, refl, sym, ◌∙◌}
-use Prim.Native.Nat.{◌+◌, ◌-◌, ◌*◌, ◌^◌, ◌≤◌, ◌<◌}
-use native.Mathlib.Omega.{arith}
-use borrow.Author.Rules.{rules}
+use mathlib.Core.Path.{◌≡◌}
+use Prim.Native.Nat.{◌-◌, ◌^◌, ◌≤◌, ◌<◌}
 use lib.ListN.{length, drop}
 use Rattle.lines.specs.Commands.{value_of}
-use Rattle.lines.proofs.CommandLaws.{value_turn, value_stop, value_end, more_digits, in_word}
 use Rattle.lines.proofs.commands.value.Given as goal
 
 abbrev pub invariant-loop-i : goal.invariant-loop-i

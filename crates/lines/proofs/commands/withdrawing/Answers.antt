@@ -1,6 +1,5 @@
 -- `lines::commands::withdrawing` meets its contract.
 -- Assumes nothing.
-use borrow.Author.Rules.{rules}
 use Rattle.lines.proofs.commands.withdrawing.Goals as goal
 
 pub returns-in-Number : goal.returns-in-Number

@@ -1,7 +1,6 @@
 -- `lines::sessions::answer` meets its contract.
 -- Assumes nothing.
 use native.Mathlib.Omega.{arith}
-use borrow.Author.Rules.{rules}
 use Rattle.lines.proofs.CommandLaws.{parsed_command}
 use Rattle.lines.proofs.FeedLaws.{response_act}
 use Rattle.lines.proofs.sessions.answer.Goals as goal

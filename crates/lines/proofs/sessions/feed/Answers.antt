@@ -1,7 +1,6 @@
 -- `lines::sessions::feed` meets its contract.
 -- Assumes nothing.
 use native.Mathlib.Omega.{arith}
-use borrow.Author.Rules.{rules}
 use Rattle.lines.proofs.FeedLaws.{feed_many, feed_past, feed-short, feed-close, feed-took, feed_refused}
 use Rattle.lines.proofs.sessions.feed.Goals as goal
 

@@ -1,7 +1,6 @@
 -- `lines::sessions::finish` meets its contract.
 -- Assumes nothing.
 use mathlib.Core.Path.{◌∙◌, refl}
-use borrow.Author.Rules.{rules}
 use Rattle.lines.proofs.FeedLaws.{end_none, end_held}
 use Rattle.lines.proofs.sessions.finish.Goals as goal
 

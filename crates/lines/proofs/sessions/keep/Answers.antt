@@ -1,12 +1,8 @@
 -- `lines::sessions::keep` meets its contract.
 -- Assumes nothing.
-use mathlib.Core.Path.{◌≡◌}
-use mathlib.Core.List.{◌++◌}
-use Prim.Native.Nat.{◌≤◌, ◌-◌}
 use native.Mathlib.Omega.{arith}
 use borrow.Author.Rules.{rules}
-use lib.ListN.{length, take}
-use Rattle.lines.specs.InnerSessions.{Holds}
+use lib.ListN.{take}
 use Rattle.lines.proofs.HeldLaws.{keep_none, keep_more, keep_full, keep_all}
 use Rattle.lines.proofs.sessions.keep.Goals as goal
 

@@ -3,11 +3,8 @@
 use mathlib.Core.Path.{◌≡◌}
 use mathlib.Core.List.{◌++◌}
 use Prim.Native.Nat.{◌≤◌, ◌-◌}
-use native.Mathlib.Omega.{arith}
-use borrow.Author.Rules.{rules}
 use lib.ListN.{length, take}
 use Rattle.lines.specs.InnerSessions.{Holds}
-use Rattle.lines.proofs.HeldLaws.{keep_none, keep_more, keep_full, keep_all}
 use Rattle.lines.proofs.sessions.keep.Given as goal
 
 abbrev pub invariant-loop-i : goal.invariant-loop-i

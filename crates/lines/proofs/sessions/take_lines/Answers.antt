@@ -1,14 +1,11 @@
 -- `lines::sessions::take_lines` meets its contract.
 -- Assumes nothing.
-use mathlib.Core.Path.{◌≡◌}
-use mathlib.Core.List.{[]}
 use Prim.Native.Nat.{◌-◌}
 use native.Mathlib.Omega.{arith}
 use borrow.Author.Rules.{rules}
-use lib.ListN.{length, take, drop, length-take, length-drop}
+use lib.ListN.{length, drop, length-take, length-drop}
 use lib.Seq.{take_all}
-use Rattle.lines.specs.Streams.{progress, world_of}
-use Rattle.lines.proofs.FeedLaws.{Going, going_start, going_more, took_all, took_full}
+use Rattle.lines.proofs.FeedLaws.{going_start, going_more, took_all, took_full}
 use Rattle.lines.proofs.sessions.take_lines.Goals as goal
 
 pub loop-taken-init : goal.loop-taken-init

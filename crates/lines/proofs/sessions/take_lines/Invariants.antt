@@ -3,12 +3,9 @@
 use mathlib.Core.Path.{◌≡◌}
 use mathlib.Core.List.{[]}
 use Prim.Native.Nat.{◌-◌}
-use native.Mathlib.Omega.{arith}
-use borrow.Author.Rules.{rules}
-use lib.ListN.{length, take, drop, length-take, length-drop}
-use lib.Seq.{take_all}
+use lib.ListN.{length, take}
 use Rattle.lines.specs.Streams.{progress, world_of}
-use Rattle.lines.proofs.FeedLaws.{Going, going_start, going_more, took_all, took_full}
+use Rattle.lines.proofs.FeedLaws.{Going}
 use Rattle.lines.proofs.sessions.take_lines.Given as goal
 
 abbrev pub invariant-loop-taken : goal.invariant-loop-taken

@@ -1,7 +1,6 @@
 -- `lines::texts::put_admitted` meets its contract.
 -- Assumes nothing.
 use native.Mathlib.Omega.{arith}
-use borrow.Author.Rules.{rules}
 use Rattle.lines.specs.Replies.{text_of}
 use Rattle.lines.proofs.DecimalLaws.{length_tabbed}
 use Rattle.lines.proofs.PutLaws.{put_then}

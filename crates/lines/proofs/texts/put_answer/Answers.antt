@@ -1,7 +1,6 @@
 -- `lines::texts::put_answer` meets its contract.
 -- Assumes nothing.
 use mathlib.Core.Path.{◌≡◌}
-use borrow.Author.Rules.{rules}
 use Rattle.lines.specs.Replies.{text_of}
 use Rattle.lines.specs.declared.texts.Answer.TheVariants as answer
 use Rattle.lines.proofs.texts.put_answer.Goals as goal

@@ -1,6 +1,5 @@
 -- `lines::texts::put_byte` meets its contract.
 -- Assumes nothing.
-use borrow.Author.Rules.{rules}
 use Rattle.lines.proofs.PutLaws.{put_byte}
 use Rattle.lines.proofs.texts.put_byte.Goals as goal
 

@@ -1,11 +1,8 @@
 -- `lines::texts::put_bytes` meets its contract.
 -- Assumes nothing.
-use mathlib.Core.Path.{◌≡◌, refl}
-use Prim.Native.Nat.{◌+◌, ◌-◌, ◌≤◌}
+use mathlib.Core.Path.{refl}
 use native.Mathlib.Omega.{arith}
-use borrow.Author.Rules.{rules}
-use lib.ListN.{length, take, length-set}
-use Rattle.lines.specs.InnerLines.{Put}
+use lib.ListN.{length-set}
 use Rattle.lines.proofs.PutLaws.{put_start, put_more, put_whole}
 use Rattle.lines.proofs.texts.put_bytes.Goals as goal
 

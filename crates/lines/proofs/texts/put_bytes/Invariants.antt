@@ -1,12 +1,9 @@
 -- `lines::texts::put_bytes` meets its contract.
 -- Assumes nothing.
-use mathlib.Core.Path.{◌≡◌, refl}
+use mathlib.Core.Path.{◌≡◌}
 use Prim.Native.Nat.{◌+◌, ◌-◌, ◌≤◌}
-use native.Mathlib.Omega.{arith}
-use borrow.Author.Rules.{rules}
-use lib.ListN.{length, take, length-set}
+use lib.ListN.{length, take}
 use Rattle.lines.specs.InnerLines.{Put}
-use Rattle.lines.proofs.PutLaws.{put_start, put_more, put_whole}
 use Rattle.lines.proofs.texts.put_bytes.Given as goal
 
 abbrev pub invariant-loop-i : goal.invariant-loop-i

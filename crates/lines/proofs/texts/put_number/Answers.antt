@@ -1,13 +1,11 @@
 -- `lines::texts::put_number` meets its contract.
 -- Assumes nothing.
 use mathlib.Core.Path.{◌≡◌}
-use Prim.Native.Nat.{◌+◌, ◌^◌, ◌≤◌, ◌<◌}
+use Prim.Native.Nat.{◌≤◌, ◌<◌}
 use native.Mathlib.Omega.{arith}
-use borrow.Author.Rules.{rules}
-use lib.ListN.{length, length-set}
-use Rattle.lines.specs.Replies.{decimal_of}
+use lib.ListN.{length}
 use Rattle.lines.proofs.DecimalLaws.{length_decimal}
-use Rattle.lines.proofs.PutLaws.{Spelling, spelling_start, spelling_place, length_spelling, spelling_turn, spelling_end}
+use Rattle.lines.proofs.PutLaws.{spelling_start, spelling_place, length_spelling, spelling_turn, spelling_end}
 use Rattle.lines.proofs.texts.put_number.Goals as goal
 use Rattle.lines.proofs.texts.put_number.Goals.{At-loop-left}
 

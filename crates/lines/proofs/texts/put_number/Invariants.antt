@@ -1,13 +1,9 @@
 -- `lines::texts::put_number` meets its contract.
 -- Assumes nothing.
-use mathlib.Core.Path.{◌≡◌}
 use Prim.Native.Nat.{◌+◌, ◌^◌, ◌≤◌, ◌<◌}
-use native.Mathlib.Omega.{arith}
-use borrow.Author.Rules.{rules}
-use lib.ListN.{length, length-set}
+use lib.ListN.{length}
 use Rattle.lines.specs.Replies.{decimal_of}
-use Rattle.lines.proofs.DecimalLaws.{length_decimal}
-use Rattle.lines.proofs.PutLaws.{Spelling, spelling_start, spelling_place, length_spelling, spelling_turn, spelling_end}
+use Rattle.lines.proofs.PutLaws.{Spelling}
 use Rattle.lines.proofs.texts.put_number.Given as goal
 
 abbrev pub invariant-loop-left : goal.invariant-loop-left

@@ -1,7 +1,6 @@
 -- `lines::texts::put_one` meets its contract.
 -- Assumes nothing.
 use native.Mathlib.Omega.{arith}
-use borrow.Author.Rules.{rules}
 use Rattle.lines.proofs.DecimalLaws.{length_tabbed}
 use Rattle.lines.proofs.PutLaws.{put_then}
 use Rattle.lines.proofs.texts.put_one.Goals as goal

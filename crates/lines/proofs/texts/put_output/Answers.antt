@@ -2,7 +2,6 @@
 -- Assumes nothing.
 use mathlib.Core.Path.{◌≡◌, subst}
 use native.Mathlib.Omega.{arith}
-use borrow.Author.Rules.{rules}
 use Rattle.lines.specs.Replies.{text_of}
 use Rattle.lines.specs.InnerLines.{Printable}
 use Rattle.lines.specs.declared.texts.Output.{Output}

@@ -1,13 +1,7 @@
 -- `lines::texts::put_plan` meets its contract.
 -- Assumes nothing.
 use mathlib.Core.Path.{◌≡◌, refl}
-use Prim.Native.Nat.{◌-◌, ◌≤◌}
 use native.Mathlib.Omega.{arith}
-use borrow.Author.Rules.{rules}
-use lib.ListN.{length, take}
-use Rattle.rounds.specs.Plans.{sheets}
-use Rattle.lines.specs.Replies.{place_lines}
-use Rattle.lines.specs.InnerLines.{Put}
 use Rattle.lines.proofs.PutLaws.{put_none, put_then, plan_more, length_plan}
 use Rattle.lines.proofs.texts.put_plan.Goals as goal
 

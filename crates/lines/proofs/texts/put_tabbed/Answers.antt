@@ -1,6 +1,5 @@
 -- `lines::texts::put_tabbed` meets its contract.
 -- Assumes nothing.
-use borrow.Author.Rules.{rules}
 use Rattle.lines.specs.Replies.{tabbed}
 use Rattle.lines.proofs.PutLaws.{put_then}
 use Rattle.lines.proofs.texts.put_tabbed.Goals as goal

@@ -1,12 +1,7 @@
 -- `rounds::replays::all_known` meets its contract.
 -- Assumes nothing.
-use mathlib.Core.Path.{◌≡◌, refl, sym, ◌∙◌}
-use Prim.Native.Nat.{◌-◌, ◌≤◌}
-use borrow.Author.Tests.{not-true, not-false}
+use mathlib.Core.Path.{refl, sym, ◌∙◌}
 use borrow.Author.Rules.{rules}
-use lib.ListN.{length, drop}
-use Rattle.lists.specs.Lists.{every}
-use Rattle.rounds.specs.Replays.{known}
 use Rattle.rounds.proofs.ReplayTurns.{known_turn, known_stop, known_end}
 use Rattle.rounds.proofs.replays.all_known.Goals as goal
 

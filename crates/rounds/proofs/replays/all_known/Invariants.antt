@@ -1,13 +1,10 @@
 -- `rounds::replays::all_known` meets its contract.
 -- Assumes nothing.
-use mathlib.Core.Path.{◌≡◌, refl, sym, ◌∙◌}
+use mathlib.Core.Path.{◌≡◌}
 use Prim.Native.Nat.{◌-◌, ◌≤◌}
-use borrow.Author.Tests.{not-true, not-false}
-use borrow.Author.Rules.{rules}
 use lib.ListN.{length, drop}
 use Rattle.lists.specs.Lists.{every}
 use Rattle.rounds.specs.Replays.{known}
-use Rattle.rounds.proofs.ReplayTurns.{known_turn, known_stop, known_end}
 use Rattle.rounds.proofs.replays.all_known.Given as goal
 
 abbrev pub invariant-loop-i : goal.invariant-loop-i

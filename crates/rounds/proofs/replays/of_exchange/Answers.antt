@@ -1,6 +1,5 @@
 -- `rounds::replays::of_exchange` meets its contract.
 -- Assumes nothing.
-use borrow.Author.Rules.{rules}
 use Rattle.rounds.proofs.replays.of_exchange.Goals as goal
 
 pub returns-in-InOut : goal.returns-in-InOut

@@ -1,6 +1,5 @@
 -- `rounds::replays::of_outcome` meets its contract.
 -- Assumes nothing.
-use borrow.Author.Rules.{rules}
 use Rattle.rounds.proofs.replays.of_outcome.Goals as goal
 
 pub returns-in-Done : goal.returns-in-Done

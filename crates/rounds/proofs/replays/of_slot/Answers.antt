@@ -1,6 +1,5 @@
 -- `rounds::replays::of_slot` meets its contract.
 -- Assumes nothing.
-use borrow.Author.Rules.{rules}
 use Rattle.rounds.proofs.replays.of_slot.Goals as goal
 
 pub returns-in-Number : goal.returns-in-Number

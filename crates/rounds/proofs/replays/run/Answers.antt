@@ -1,7 +1,6 @@
 -- `rounds::replays::run` meets its contract.
 -- Assumes nothing.
 use native.Mathlib.Omega.{arith}
-use borrow.Author.Rules.{rules}
 use lib.ListN.{length}
 use Rattle.rounds.specs.Rounds.{state}
 use Rattle.rounds.proofs.ReplayTurns.{run_is, run_scratch}

@@ -1,14 +1,13 @@
 -- `rounds::replays::run_calls` meets its contract.
 -- Assumes nothing.
-use mathlib.Core.Path.{◌≡◌, refl, ◌∙◌}
+use mathlib.Core.Path.{◌≡◌}
 use mathlib.Core.List.{map}
 use Prim.Native.Nat.{◌-◌, ◌*◌, ◌≤◌}
-use borrow.Author.Rules.{rules}
 use lib.ListN.{length}
 use Rattle.rounds.specs.Rounds.{state}
 use Rattle.rounds.specs.Histories.{after_all}
 use Rattle.rounds.specs.Replays.{call_of}
-use Rattle.rounds.proofs.ReplayTurns.{calls_from, placed_all, after_turn, placed_turn, after_end, placed_end, placed_written}
+use Rattle.rounds.proofs.ReplayTurns.{calls_from, placed_all}
 use Rattle.rounds.proofs.replays.run_calls.Given as goal
 
 abbrev pub invariant-loop-i : goal.invariant-loop-i

@@ -1,6 +1,5 @@
 -- `rounds::replays::step` meets its contract.
 -- Assumes nothing.
-use borrow.Author.Rules.{rules}
 use Rattle.rounds.proofs.ReplayTurns.{step_admit, step_join, step_withdraw}
 use Rattle.rounds.proofs.replays.step.Goals as goal
 

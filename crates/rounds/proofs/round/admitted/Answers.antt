@@ -1,7 +1,5 @@
 -- `rounds::round::admitted` meets its contract.
 -- Assumes nothing.
-use borrow.Author.Tests.{not-true, not-false}
-use borrow.Author.Rules.{rules}
 use Rattle.rounds.proofs.RoundCallLaws.{table_tested, admit_refused, admit_code}
 use Rattle.rounds.proofs.round.admitted.Goals as goal
 

@@ -1,12 +1,11 @@
 -- `rounds::round::deal` meets its contract.
 -- Assumes nothing.
 use mathlib.Core.Path.{◌≡◌, refl, ◌∙◌}
-use Prim.Native.Nat.{◌-◌, ◌<◌, ◌≤◌}
+use Prim.Native.Nat.{◌<◌}
 use native.Mathlib.Omega.{arith}
-use borrow.Author.Rules.{rules}
 use lib.ListN.{length, get_or}
 use Rattle.rounds.specs.InnerRounds.{dealt_to}
-use Rattle.rounds.proofs.DealLaws.{slot_lent, Dealt, dealt_start, dealt_lengths, dealt_done, dealt-room, dealt-yes, dealt-no}
+use Rattle.rounds.proofs.DealLaws.{slot_lent, dealt_start, dealt_lengths, dealt_done, dealt-room, dealt-yes, dealt-no}
 use Rattle.rounds.proofs.round.deal.Goals as goal
 use Rattle.rounds.proofs.round.deal.Goals.{After-terminal-s, At-loop-i, Then-x-n}
 

@@ -1,12 +1,10 @@
 -- `rounds::round::deal` meets its contract.
 -- Assumes nothing.
-use mathlib.Core.Path.{◌≡◌, refl, ◌∙◌}
-use Prim.Native.Nat.{◌-◌, ◌<◌, ◌≤◌}
-use native.Mathlib.Omega.{arith}
-use borrow.Author.Rules.{rules}
-use lib.ListN.{length, get_or}
+use mathlib.Core.Path.{◌≡◌}
+use Prim.Native.Nat.{◌-◌, ◌≤◌}
+use lib.ListN.{length}
 use Rattle.rounds.specs.InnerRounds.{dealt_to}
-use Rattle.rounds.proofs.DealLaws.{slot_lent, Dealt, dealt_start, dealt_lengths, dealt_done, dealt-room, dealt-yes, dealt-no}
+use Rattle.rounds.proofs.DealLaws.{Dealt}
 use Rattle.rounds.proofs.round.deal.Given as goal
 
 abbrev pub invariant-loop-i : goal.invariant-loop-i

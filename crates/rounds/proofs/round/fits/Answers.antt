@@ -1,8 +1,6 @@
 -- `rounds::round::fits` meets its contract.
 -- Assumes nothing.
 use mathlib.Core.Path.{refl, sym, ◌∙◌}
-use borrow.Author.Tests.{not-true, not-false}
-use borrow.Author.Rules.{rules}
 use Rattle.rounds.proofs.RoundCallLaws.{list_tested, table_tested, list_unfit, list_fit}
 use Rattle.rounds.proofs.round.fits.Goals as goal
 

@@ -1,7 +1,5 @@
 -- `rounds::round::is_idle` meets its contract.
 -- Assumes nothing.
-use borrow.Author.Tests.{not-true, not-false}
-use borrow.Author.Rules.{rules}
 use Rattle.rounds.proofs.RoundCallLaws.{list_tested, idle_refused, idle_code}
 use Rattle.rounds.proofs.round.is_idle.Goals as goal
 

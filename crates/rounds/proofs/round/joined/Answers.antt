@@ -1,7 +1,5 @@
 -- `rounds::round::joined` meets its contract.
 -- Assumes nothing.
-use borrow.Author.Tests.{not-true, not-false}
-use borrow.Author.Rules.{rules}
 use Rattle.rounds.proofs.RoundCallLaws.{list_tested, join_refused, join_code}
 use Rattle.rounds.proofs.round.joined.Goals as goal
 

@@ -1,6 +1,5 @@
 -- `rounds::round::open` meets its contract.
 -- Assumes nothing.
-use borrow.Author.Rules.{rules}
 use Rattle.rounds.proofs.RoundCallLaws.{open_made, open_refused}
 use Rattle.rounds.proofs.round.open.Goals as goal
 

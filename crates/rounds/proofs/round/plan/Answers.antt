@@ -3,7 +3,6 @@
 use mathlib.Core.Path.{refl}
 use Prim.Native.Nat.{◌≤◌, min}
 use native.Mathlib.Omega.{arith}
-use borrow.Author.Rules.{rules}
 use lib.ListN.{length}
 use Rattle.choosers.specs.SlotCalls.{slot_limit}
 use Rattle.rounds.proofs.PlanCodeLaws.{Ready, is_ready, is_unfit, plan_unfit, few-locations, few-terminals, few-places, deal_room, plan_none, plan-done}
@@ -20,9 +19,9 @@ enough c = omega (arith, c.scratch_places.ensures)
 
 pub returns-then-locations-k : goal.returns-then-locations-k
 returns-then-locations-k c = record {
-      terminals_after = few-locations _ _ _ _ _ _ _ (ready (goal.at.returns-then-locations-k c).In-Is) c.if-locations-k.true;
-      scratch_after = refl;
-    }
+  terminals_after = few-locations _ _ _ _ _ _ _ (ready (goal.at.returns-then-locations-k c).In-Is) c.if-locations-k.true;
+  scratch_after = refl;
+}
 
 pub returns-then-terminals-k : goal.returns-then-terminals-k
 returns-then-terminals-k c =

@@ -1,6 +1,5 @@
 -- `rounds::round::terminal` meets its contract.
 -- Assumes nothing.
-use borrow.Author.Rules.{rules}
 use Rattle.rounds.proofs.DealLaws.{slot_found, slot_missing}
 use Rattle.rounds.proofs.round.terminal.Goals as goal
 

@@ -1,7 +1,5 @@
 -- `rounds::round::withdrawn` meets its contract.
 -- Assumes nothing.
-use borrow.Author.Tests.{not-true, not-false}
-use borrow.Author.Rules.{rules}
 use Rattle.rounds.proofs.RoundCallLaws.{list_tested, withdraw-refused, withdraw-code}
 use Rattle.rounds.proofs.round.withdrawn.Goals as goal
 
