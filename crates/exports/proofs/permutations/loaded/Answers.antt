@@ -1,0 +1,7 @@
+-- `exports::permutations::loaded` meets its contract.
+-- Assumes nothing.
+use borrow.Author.Rules.{rules}
+use Rattle.exports.proofs.permutations.loaded.Goals as goal
+
+pub returns : goal.returns
+returns c = rw c.joined.ensures

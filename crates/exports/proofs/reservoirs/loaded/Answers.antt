@@ -1,0 +1,7 @@
+-- `exports::reservoirs::loaded` meets its contract.
+-- Assumes nothing.
+use borrow.Author.Rules.{rules}
+use Rattle.exports.proofs.reservoirs.loaded.Goals as goal
+
+pub returns : goal.returns
+returns c = rw c.joined.ensures
