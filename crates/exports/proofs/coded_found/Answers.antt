@@ -1,7 +1,6 @@
 -- `exports::coded_found` meets its contract.
 -- Assumes nothing.
 use mathlib.Core.Path.{sym, ap}
-use borrow.Author.Rules.{rules}
 use Rattle.hashes.specs.declared.Found.{Found}
 use Rattle.hashes.specs.Calls.{told}
 use Rattle.exports.specs.Coded.{coded_hash}

@@ -1,7 +1,6 @@
 -- `exports::perillajamb_falling_next` meets its contract.
 -- Assumes nothing.
 use mathlib.Core.Path.{ap, ◌∙◌}
-use borrow.Author.Rules.{rules}
 use Rattle.lists.specs.Steps.{Step}
 use Rattle.hashes.specs.declared.ConsistentHashRevIterator.{ConsistentHashRevIterator}
 use Rattle.exports.specs.Coded.{coded_hash}

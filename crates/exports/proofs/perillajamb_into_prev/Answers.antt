@@ -1,7 +1,6 @@
 -- `exports::perillajamb_into_prev` meets its contract.
 -- Assumes nothing.
 use mathlib.Core.Path.{ap, ◌∙◌}
-use borrow.Author.Rules.{rules}
 use Rattle.hashes.specs.declared.ConsistentHasher.{ConsistentHasher}
 use Rattle.hashes.specs.Calls.{prev_call}
 use Rattle.exports.specs.Coded.{coded_hash}

@@ -1,7 +1,6 @@
 -- `exports::perillajamb_layer_apply` meets its contract.
 -- Assumes nothing.
 use mathlib.Core.Path.{sym, ap, ◌∙◌}
-use borrow.Author.Rules.{rules}
 use Rattle.layers.specs.declared.Applied.{Applied}
 use Rattle.layers.specs.Calls.{told}
 use Rattle.exports.specs.Coded.{coded}

@@ -1,7 +1,6 @@
 -- `exports::perillajamb_layer_xors` meets its contract.
 -- Assumes nothing.
 use mathlib.Core.Path.{sym, ap, ◌∙◌}
-use borrow.Author.Rules.{rules}
 use Rattle.layers.specs.KeyedLayers.{told_keyed}
 use Rattle.exports.proofs.XorLaws.{made, not_made}
 use Rattle.exports.proofs.perillajamb_layer_xors.Goals as goal

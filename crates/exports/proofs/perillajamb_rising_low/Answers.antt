@@ -1,6 +1,6 @@
 -- `exports::perillajamb_rising_low` meets its contract.
 -- Assumes nothing.
-use mathlib.Core.Path.{◌≡◌, sym, ap, ◌∙◌}
+use mathlib.Core.Path.{sym, ap, ◌∙◌}
 use Prim.Native.Nat.{ℕ, ◌+◌, ◌^◌}
 use Rattle.hashes.specs.declared.ConsistentHashIterator.{ConsistentHashIterator}
 use Rattle.hashes.specs.Next.{low}

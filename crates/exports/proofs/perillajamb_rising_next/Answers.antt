@@ -1,7 +1,6 @@
 -- `exports::perillajamb_rising_next` meets its contract.
 -- Assumes nothing.
 use mathlib.Core.Path.{ap, ◌∙◌}
-use borrow.Author.Rules.{rules}
 use Rattle.lists.specs.Steps.{Step}
 use Rattle.hashes.specs.declared.ConsistentHashIterator.{ConsistentHashIterator}
 use Rattle.exports.specs.Coded.{coded_hash}

@@ -1,13 +1,9 @@
 -- `exports::xor_outputs` meets its contract.
 -- Assumes nothing.
-use mathlib.Core.Path.{◌≡◌, refl, ap, ap₂, ◌∙◌}
+use mathlib.Core.Path.{◌≡◌}
 use Prim.Native.Nat.{◌≤◌, ◌-◌}
-use native.Mathlib.Omega.{arith}
-use borrow.Author.Rules.{rules}
-use lib.Bits.{bit_xor}
 use Rattle.layers.specs.KeyedLayers.{applied}
 use Rattle.exports.specs.Coded.{xors}
-use Rattle.exports.proofs.XorLaws.{xors_step}
 use Rattle.exports.proofs.xor_outputs.Given as goal
 
 abbrev pub invariant-loop-x : goal.invariant-loop-x

@@ -1,6 +1,5 @@
 -- `exports::chooser::store_drawn` meets its contract.
 -- Assumes nothing.
-use borrow.Author.Rules.{rules}
 use Rattle.exports.proofs.ChooserCrossLaws.{drawn_sample, drawn_none, drawn_refused}
 use Rattle.exports.proofs.chooser.store_drawn.Goals as goal
 

@@ -1,6 +1,5 @@
 -- `exports::chooser::store_made` meets its contract.
 -- Assumes nothing.
-use borrow.Author.Rules.{rules}
 use Rattle.exports.proofs.ChooserCrossLaws.{made_made, made_refused}
 use Rattle.exports.proofs.chooser.store_made.Goals as goal
 

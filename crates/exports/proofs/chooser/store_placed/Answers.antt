@@ -1,6 +1,5 @@
 -- `exports::chooser::store_placed` meets its contract.
 -- Assumes nothing.
-use borrow.Author.Rules.{rules}
 use Rattle.exports.proofs.ChooserCrossLaws.{placed_index, placed_refused}
 use Rattle.exports.proofs.chooser.store_placed.Goals as goal
 

@@ -1,12 +1,9 @@
 -- `exports::digests::falling_fed` meets its contract.
 -- Assumes nothing.
-use mathlib.Core.Bool.{true, false}
-use mathlib.Core.Path.{◌≡◌, refl, ◌∙◌}
-use borrow.Author.Rules.{rules}
-use Rattle.hashes.specs.Walks.{falling_step}
+use mathlib.Core.Path.{◌≡◌}
 use Rattle.hashes.proofs.WalkLaws.{Falls, below_of, fall_turn}
 use Rattle.exports.specs.Coded.{fed_all}
-use Rattle.exports.proofs.DigestLaws.{left, calls, fed, Fed}
+use Rattle.exports.proofs.DigestLaws.{left, calls}
 use Rattle.exports.proofs.digests.falling_fed.Given as goal
 
 abbrev pub invariant-loop-more : goal.invariant-loop-more

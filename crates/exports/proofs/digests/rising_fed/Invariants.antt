@@ -1,12 +1,9 @@
 -- `exports::digests::rising_fed` meets its contract.
 -- Assumes nothing.
-use mathlib.Core.Bool.{true, false}
-use mathlib.Core.Path.{◌≡◌, refl, ◌∙◌}
-use borrow.Author.Rules.{rules}
-use Rattle.hashes.specs.Walks.{rising_step}
+use mathlib.Core.Path.{◌≡◌}
 use Rattle.hashes.proofs.WalkLaws.{Rises, above_of, rise_turn}
 use Rattle.exports.specs.Coded.{fed_all}
-use Rattle.exports.proofs.DigestLaws.{left, calls, fed, Fed}
+use Rattle.exports.proofs.DigestLaws.{left, calls}
 use Rattle.exports.proofs.digests.rising_fed.Given as goal
 
 abbrev pub invariant-loop-more : goal.invariant-loop-more

@@ -1,7 +1,6 @@
 -- `exports::permutations::fed_with` meets its contract.
 -- Assumes nothing.
 use mathlib.Core.Path.{ap, sym, ◌∙◌}
-use borrow.Author.Rules.{rules}
 use Rattle.orders.specs.OrderCalls.{told_given}
 use Rattle.exports.specs.InnerDigests.{fed_with}
 use Rattle.exports.proofs.permutations.fed_with.Goals as goal

@@ -1,6 +1,5 @@
 -- `exports::permutations::loaded` meets its contract.
 -- Assumes nothing.
-use borrow.Author.Rules.{rules}
 use Rattle.exports.proofs.permutations.loaded.Goals as goal
 
 pub returns : goal.returns

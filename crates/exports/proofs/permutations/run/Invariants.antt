@@ -1,16 +1,11 @@
 -- `exports::permutations::run` meets its contract.
 -- Assumes nothing.
-use mathlib.Core.Path.{◌≡◌, refl, ap, ◌∙◌}
-use Prim.Native.Nat.{◌≤◌}
-use native.Mathlib.Omega.{arith}
-use borrow.Author.Rules.{rules}
-use lib.ListN.{length}
+use mathlib.Core.Path.{◌≡◌}
 use mathlib.Core.Option as Opt
 use Rattle.lists.specs.Told.{says}
 use Rattle.orders.specs.OrderCalls.{told_given}
 use Rattle.exports.specs.Orders.{order_as}
 use Rattle.exports.specs.InnerRuns.{run_of, run_on}
-use Rattle.exports.proofs.RunLaws.{one_more, ran_refused, ran_none, ran_number}
 use Rattle.exports.proofs.permutations.run.Given as goal
 
 abbrev pub invariant-loop-left : goal.invariant-loop-left

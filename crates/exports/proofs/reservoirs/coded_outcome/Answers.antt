@@ -1,7 +1,6 @@
 -- `exports::reservoirs::coded_outcome` meets its contract.
 -- Assumes nothing.
 use mathlib.Core.Path.{ap, sym, ◌∙◌}
-use borrow.Author.Rules.{rules}
 use Rattle.orders.specs.Outcomes.{told_outcome}
 use Rattle.exports.specs.Coded.{coded_done}
 use Rattle.exports.proofs.reservoirs.coded_outcome.Goals as goal

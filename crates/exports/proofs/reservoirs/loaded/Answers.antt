@@ -1,6 +1,5 @@
 -- `exports::reservoirs::loaded` meets its contract.
 -- Assumes nothing.
-use borrow.Author.Rules.{rules}
 use Rattle.exports.proofs.reservoirs.loaded.Goals as goal
 
 pub returns : goal.returns

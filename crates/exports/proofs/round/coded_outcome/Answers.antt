@@ -1,7 +1,6 @@
 -- `exports::round::coded_outcome` meets its contract.
 -- Assumes nothing.
 use mathlib.Core.Path.{ap, sym, ◌∙◌}
-use borrow.Author.Rules.{rules}
 use Rattle.choosers.specs.declared.node_map.Outcome.{Outcome}
 use Rattle.choosers.specs.SlotCalls.{told_outcome}
 use Rattle.exports.specs.Coded.{coded_done}

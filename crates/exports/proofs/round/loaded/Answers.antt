@@ -1,6 +1,5 @@
 -- `exports::round::loaded` meets its contract.
 -- Assumes nothing.
-use borrow.Author.Rules.{rules}
 use Rattle.exports.proofs.round.loaded.Goals as goal
 
 pub returns : goal.returns

@@ -10,9 +10,9 @@ use Rattle.exports.proofs.round.perillajamb_round_plan.Goals as goal
 pub returns-then-words-lt7 : goal.returns-then-words-lt7
 unfolding plan_crossed
 returns-then-words-lt7 c = record {
-      terminals_after = rw (c.refused.ensures, lt-ltb _ 7 c.if-words-lt7.true);
-      scratch_after = λ _. refl;
-    }
+  terminals_after = rw (c.refused.ensures, lt-ltb _ 7 c.if-words-lt7.true);
+  scratch_after = λ _. refl;
+}
 
 pub returns : goal.returns
 returns c =

@@ -1,6 +1,5 @@
 -- `exports::round::store_admission` meets its contract.
 -- Assumes nothing.
-use borrow.Author.Rules.{rules}
 use Rattle.exports.proofs.RoundCrossLaws.{admission_in_out, admission_none, admission_refused}
 use Rattle.exports.proofs.round.store_admission.Goals as goal
 

@@ -1,6 +1,5 @@
 -- `exports::round::store_joining` meets its contract.
 -- Assumes nothing.
-use borrow.Author.Rules.{rules}
 use Rattle.exports.proofs.RoundCrossLaws.{joining_slot, joining_refused}
 use Rattle.exports.proofs.round.store_joining.Goals as goal
 

@@ -1,6 +1,5 @@
 -- `exports::round::store_opened` meets its contract.
 -- Assumes nothing.
-use borrow.Author.Rules.{rules}
 use Rattle.exports.proofs.RoundCrossLaws.{opened_made, opened_refused}
 use Rattle.exports.proofs.round.store_opened.Goals as goal
 

@@ -1,6 +1,5 @@
 -- `exports::round::store_withdrawal` meets its contract.
 -- Assumes nothing.
-use borrow.Author.Rules.{rules}
 use Rattle.exports.proofs.RoundCrossLaws.{withdrawal_done, withdrawal_refused}
 use Rattle.exports.proofs.round.store_withdrawal.Goals as goal
 

@@ -1,7 +1,6 @@
 -- `exports::slots::coded_truth` meets its contract.
 -- Assumes nothing.
 use mathlib.Core.Path.{sym, ap, ◌∙◌}
-use borrow.Author.Rules.{rules}
 use Rattle.choosers.specs.declared.node_map.Truth.{Truth}
 use Rattle.choosers.specs.SlotCalls.{told_truth}
 use Rattle.exports.specs.Slots.{coded_truth}

@@ -1,6 +1,5 @@
 -- `exports::slots::perillajamb_first_active` meets its contract.
 -- Assumes nothing.
-use borrow.Author.Rules.{rules}
 use Rattle.exports.proofs.SlotCrossLaws.{looked_found, looked_missing}
 use Rattle.exports.proofs.slots.perillajamb_first_active.Goals as goal
 

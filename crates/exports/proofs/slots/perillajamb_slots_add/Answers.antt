@@ -1,6 +1,5 @@
 -- `exports::slots::perillajamb_slots_add` meets its contract.
 -- Assumes nothing.
-use borrow.Author.Rules.{rules}
 use Rattle.exports.proofs.SlotCrossLaws.{add_slot, add-refused}
 use Rattle.exports.proofs.slots.perillajamb_slots_add.Goals as goal
 

@@ -1,6 +1,5 @@
 -- `exports::slots::perillajamb_slots_fits` meets its contract.
 -- Assumes nothing.
-use borrow.Author.Rules.{rules}
 use Rattle.choosers.specs.declared.node_map.ConsistentNodeMap.{ConsistentNodeMap}
 use Rattle.choosers.specs.SlotCalls.{fitting}
 use Rattle.exports.specs.Coded.{truth}

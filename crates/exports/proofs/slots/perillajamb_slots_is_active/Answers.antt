@@ -1,6 +1,5 @@
 -- `exports::slots::perillajamb_slots_is_active` meets its contract.
 -- Assumes nothing.
-use borrow.Author.Rules.{rules}
 use Rattle.choosers.specs.declared.node_map.ConsistentNodeMap.{ConsistentNodeMap}
 use Rattle.choosers.specs.SlotCalls.{told_truth, is_active_call}
 use Rattle.exports.specs.Slots.{coded_truth}

@@ -1,6 +1,5 @@
 -- `exports::slots::perillajamb_slots_is_empty` meets its contract.
 -- Assumes nothing.
-use borrow.Author.Rules.{rules}
 use Rattle.choosers.specs.declared.node_map.ConsistentNodeMap.{ConsistentNodeMap}
 use Rattle.choosers.specs.SlotCalls.{told_truth, is_empty_call}
 use Rattle.exports.specs.Slots.{coded_truth}

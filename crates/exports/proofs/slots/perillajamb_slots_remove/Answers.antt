@@ -1,6 +1,5 @@
 -- `exports::slots::perillajamb_slots_remove` meets its contract.
 -- Assumes nothing.
-use borrow.Author.Rules.{rules}
 use Rattle.exports.proofs.SlotCrossLaws.{remove-done, remove-refused}
 use Rattle.exports.proofs.slots.perillajamb_slots_remove.Goals as goal
 
