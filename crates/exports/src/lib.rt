@@ -1,5 +1,6 @@
 // The library for programs in C and Rust: functions on numbers, with the promises of what they call.
 #![tactic(auto)]
+
 pub mod chooser;
 mod digests;
 mod parts;

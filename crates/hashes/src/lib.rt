@@ -12,7 +12,7 @@ ghost use Rattle.hashes.specs.Calls.{told, prev_call, next_call};
 ghost use Rattle.hashes.specs.Walks.{told_falling, falling_from, falling_step, fall, told_rising, rising_from, rising_step, rise};
 
 // What a call that looks for a hash answers: the hash, that there is none, or a refusal with its number.
-#[derive(Drop)]
+#[derive(Clone, Copy)]
 pub enum Found {
     Hash(u64),
     Nothing,

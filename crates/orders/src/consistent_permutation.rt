@@ -18,7 +18,7 @@ pub struct ConsistentPermutation {
 }
 
 // What `next` gives: a number, that there is none, or a refusal with its number.
-#[derive(Drop)]
+#[derive(Clone, Copy)]
 pub enum Given {
     Number(u32),
     Nothing,
