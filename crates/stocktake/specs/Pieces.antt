@@ -1,4 +1,4 @@
--- What the program's own functions ask and promise of a call's numbers.
+-- What the program's own functions ask and promise of what a call says and puts out.
 -- Assumes nothing.
 use Rattle.std.specs.Prelude.{◌≡◌, List, ℕ, ◌≤◌, length, take, Option}
 use Rattle.std.specs.Io.KnownBytes.{Keeps, Appends}
