@@ -2,14 +2,12 @@
 -- Assumes nothing.
 use mathlib.Core.Path.{◌≡◌, refl}
 use mathlib.Core.List.{[], ◌∷◌}
-use mathlib.Core.Option.{some}
 use Prim.Native.Nat.{ℕ}
 use Rattle.lists.specs.Lists.{below, same, has, lacked}
 use Rattle.words.specs.Words.{mix, wrapping_mul}
 use Rattle.hashes.specs.Hashes.{feed, draw, draws, later_numbers, numbers, bucket_hashes, bucket_draws, is_set, bucket, buckets, hashes, prev}
 use Rattle.hashes.specs.Calls.{prev_number}
 use Rattle.choosers.specs.Choosers.{g, largest_g, S, Q}
-use Rattle.choosers.specs.Slots.{active, holder}
 
 abbrev state : ℕ
 state = 0xDEAD_BEEF_CAFE_F00D

@@ -7,7 +7,7 @@ use crate::samples;
 use hashes::ConsistentHasher;
 
 // A chooser's numbers: the state, n, and how many places of the list hold samples.
-#[derive(Drop)]
+#[derive(Clone, Copy)]
 pub struct ConsistentChooseKHasher {
     pub state: u64,
     pub n: u64,

@@ -7,7 +7,7 @@ ghost use Rattle.choosers.specs.InnerSlots.{refused_slot, refused_removal};
 use crate::{lookups, tables};
 
 // How many slots there are, deleted ones too.
-#[derive(Drop)]
+#[derive(Clone, Copy)]
 pub struct ConsistentNodeMap {
     pub total: u32,
 }

@@ -1,7 +1,7 @@
 -- One bucket: where its numbers and hashes lie, and its largest hash below a number, its smallest from a number up, by its
 -- numbers alone.
 -- Assumes nothing.
-use mathlib.Core.Path.{◌≡◌, refl, ap}
+use mathlib.Core.Path.{◌≡◌, refl, sym, subst, ap}
 use mathlib.Core.Bool.{true, false, false≢true}
 use mathlib.Core.List.{List, [], ◌∷◌}
 use mathlib.Core.Option.{Option, none, some}
@@ -46,7 +46,7 @@ prefix_minima_within before (x ∷ xs) z h =
     by_test (less_than_all x before)
     (λ y. let i : 0 < occurrences z (x ∷ prefix_minima (x ∷ before) xs) = rw y at h in
     occurrences_cons z x (prefix_minima (x ∷ before) xs) i
-    (λ e. rw e (occurrences_head x xs))
+    (λ e. subst (λ (v : ℕ). 0 < occurrences v (x ∷ xs)) (sym e) (occurrences_head x xs))
     (λ t. occurrences_tail z x xs (prefix_minima_within (x ∷ before) xs z t)))
     (λ n. let i : 0 < occurrences z (prefix_minima (x ∷ before) xs) = rw n at h in occurrences_tail z x xs (prefix_minima_within (x ∷ before) xs z i))
 

@@ -1,5 +1,6 @@
 // The hashes of a state (document 01, "Hashes"): the largest below a number, the smallest from a number up, and both walks.
 #![tactic(auto)]
+
 mod bits;
 mod buckets;
 mod search;

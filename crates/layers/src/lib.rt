@@ -1,5 +1,6 @@
 // The layers of document 01: each a permutation of 0..4^(j+1), made of Feistel rounds.
 #![tactic(auto)]
+
 mod feistel;
 mod rows;
 
@@ -18,7 +19,7 @@ pub enum Applied {
 
 // A layer under a key, made once and applied many times: the bits of a half, the size, how many rounds are more than
 // four, what each of the first four rounds takes of its key, and the key after them.
-#[derive(Drop)]
+#[derive(Clone, Copy)]
 pub struct KeyedLayer {
     pub half: u32,
     pub size: u32,

@@ -2,7 +2,7 @@
 -- piece that it took was fed, and what that puts out stands in the first places of the list.
 -- Assumes nothing.
 use mathlib.Core.Path.{◌≡◌, refl, sym, ap, ◌∙◌, subst}
-use mathlib.Core.Bool.{true, false, true≢false, or-true, ◌||◌}
+use mathlib.Core.Bool.{true, true≢false, or-true, ◌||◌}
 use mathlib.Core.List.{List, [], ◌∷◌}
 use Prim.Native.Nat.{ℕ, suc, ◌-◌, ◌≤◌, ◌<◌}
 use native.Mathlib.Omega.{arith}

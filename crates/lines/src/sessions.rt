@@ -8,7 +8,7 @@ use crate::{calls, commands, texts};
 use rounds::round::Round;
 
 // The round that an accepted open made, if there was one.
-#[derive(Drop)]
+#[derive(Clone, Copy)]
 pub enum Current {
     Nothing,
     Open(Round),

@@ -20,11 +20,6 @@ use Rattle.orders.specs.InnerCounters.{raises}
 use Rattle.orders.proofs.LogLaws.{size_in}
 use Rattle.orders.proofs.WalkLaws.{counted_set}
 
--- ---- the last arm of a match on the layer: none of the numbers before is j
-
-pub past : (k j : ℕ) → k ≤ j → (j ≡ k → ⊥) → suc k ≤ j
-past k j h d = omega arith
-
 -- ---- the test
 
 -- the test of c counters from that of layer i up

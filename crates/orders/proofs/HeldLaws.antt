@@ -4,12 +4,12 @@
 use mathlib.Core.Path.{◌≡◌, refl, sym, ap, ◌∙◌, subst}
 use mathlib.Core.Bool.{true, false, true≢false}
 use mathlib.Core.List.{List}
-use mathlib.Core.Option.{none, some}
+use mathlib.Core.Option.{some}
 use Prim.Native.Nat.{ℕ, zero, suc, ◌+◌, ◌-◌, ◌^◌, ◌≤◌, ◌<◌}
 use native.Mathlib.Nat.{add-suc, add-zero}
 use native.Mathlib.Omega.{arith}
 use lib.ListN.{length, take, get_or}
-use Rattle.lists.specs.Lists.{keep, below, not_below, occurrences, count_below, smallest, up_to, replace, standing, last}
+use Rattle.lists.specs.Lists.{keep, below, not_below, occurrences, count_below, smallest, up_to, replace, standing}
 use Rattle.lists.proofs.Tests.{below_yes, below_no, below→lt, by_below}
 use Rattle.lists.proofs.Keeping.{all_keep, below_below}
 use Rattle.lists.proofs.Counting.{occurrences_count, order_none, order_occurrences}

@@ -14,7 +14,7 @@ use Rattle.lists.proofs.Keeping.{all_keep, keep_keep, below_below}
 use Rattle.lists.proofs.Counting.{Order, order_of_lem, order_all, order_once, order_none, order_part}
 use Rattle.lists.proofs.Permutations.{image_order}
 use Rattle.lists.proofs.Replacing.{replace_zero, order_keep, order_replace}
-use Rattle.layers.specs.Layer.{size, layer}
+use Rattle.layers.specs.Layer.{size}
 use Rattle.layers.proofs.Permutes.{layer_permutes, top_zero}
 use Rattle.orders.specs.Orders.{layer_of, counter, zero_top, next_numbers, none_counted, whole, P}
 use Rattle.orders.specs.Reservoirs.{outputs}

@@ -19,8 +19,8 @@ use Rattle.lists.proofs.Prefixes.{all_up_to, up_to_ends, ends_end}
 use Rattle.layers.specs.Layer.{size}
 use Rattle.orders.specs.declared.consistent_reservoir.ConsistentReservoir.{ConsistentReservoir}
 use Rattle.orders.specs.Orders.{layer_of, P}
-use Rattle.orders.specs.Reservoirs.{counts, opening, held}
-use Rattle.orders.specs.ReservoirCalls.{key_of, j_of, listed, sample, fitting, AfterOpen, after_open, reservoir_of, open_call, refused}
+use Rattle.orders.specs.Reservoirs.{opening, held}
+use Rattle.orders.specs.ReservoirCalls.{key_of, j_of, listed, sample, fitting, AfterOpen, after_open, reservoir_of, open_call}
 use Rattle.orders.specs.InnerPasses.{place}
 use Rattle.orders.proofs.LogLaws.{size_suc, layer_fits, layer_in, pow_up}
 use Rattle.orders.proofs.OrderLaws.{place_order, whole_place, P_size}

@@ -7,7 +7,7 @@ use crate::consistent_reservoir::ConsistentReservoir;
 use crate::{scans, steps};
 
 // What one pass over the listed numbers finds: how many are below n, the smallest not below n, the or of all.
-#[derive(Drop)]
+#[derive(Clone, Copy)]
 pub struct Survey {
     pub count: u32,
     pub low: u32,

@@ -10,7 +10,7 @@ use crate::scans::Wide;
 use crate::{Outcome, checks, fills, scans};
 
 // A reservoir's numbers: the key, k, n, the layer and how many places of the list are in use.
-#[derive(Drop)]
+#[derive(Clone, Copy)]
 pub struct ConsistentReservoir {
     pub master_key: u64,
     pub k: u32,

@@ -1,5 +1,6 @@
 // The orders of document 01, and the reservoirs over them.
 #![tactic(auto)]
+
 mod checks;
 pub mod consistent_permutation;
 pub mod consistent_reservoir;

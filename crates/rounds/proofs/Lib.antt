@@ -13,8 +13,3 @@ pub mod RoundCallLaws
 pub mod DealLaws
 pub mod PlanCodeLaws
 pub mod ReplayTurns
-pub mod LocalSteps
-pub mod PlaceSteps
-pub mod CalleeSteps
-pub mod LentSteps
-pub mod LendingSteps

@@ -14,7 +14,7 @@ use Rattle.lists.proofs.Tests.{by_cond}
 use Rattle.choosers.specs.Slots.{state_of, slot_of}
 use Rattle.choosers.specs.SlotCalls as Slots
 use Rattle.choosers.proofs.GetLaws.{get_slot}
-use Rattle.rounds.specs.Rounds.{State, map_of, fitting, After}
+use Rattle.rounds.specs.Rounds.{State, map_of, After}
 use Rattle.rounds.specs.Plans.{AfterPlan, terminal_of, plan_call}
 use Rattle.rounds.specs.Ledgers.{Call, admit, join, withdraw, answer}
 use Rattle.rounds.specs.Histories.{call}

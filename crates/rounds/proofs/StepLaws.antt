@@ -26,7 +26,7 @@ use Rattle.choosers.proofs.SlotCallLaws.{remove-none}
 use Rattle.choosers.proofs.SlotLaws.{has_actives}
 use Rattle.choosers.proofs.AddLaws.{vacant_le, vacant_outside, add-room, add-no-room, add_actives, add_count, add_fits, add_bytes}
 use Rattle.choosers.proofs.RemoveLaws.{remove_active, remove_actives, remove_count, remove_fits, remove_bytes}
-use Rattle.rounds.specs.Rounds.{reservoir_of, map_of, State, state, fitting, After, refused, by_reservoir, by_slots, admit_call, join_call, withdraw_call}
+use Rattle.rounds.specs.Rounds.{reservoir_of, map_of, State, fitting, After, refused, by_reservoir, by_slots, admit_call, join_call, withdraw_call}
 use Rattle.rounds.specs.Ledgers.{Call, admit, join, withdraw, Ledger, ledger, n_after, due_in, free_slot, accept, in_and_out, answer, fed}
 use Rattle.rounds.specs.Histories.{exchanged, slot_said, nothing_said, valued, call}
 use Rattle.rounds.specs.Demand3.{agrees}

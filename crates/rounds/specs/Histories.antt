@@ -3,7 +3,7 @@
 use Rattle.std.specs.Prelude.{◌≡◌, List, [], ◌∷◌, ℕ}
 use Rattle.std.proofs.Math.Option.{Option, none, some}
 use Rattle.lists.specs.Told.{Told, says, map_told}
-use Rattle.rounds.specs.Rounds.{State, state, open_call, after_open, After, after, admit_call, join_call, withdraw_call}
+use Rattle.rounds.specs.Rounds.{State, open_call, after_open, After, after, admit_call, join_call, withdraw_call}
 use Rattle.rounds.specs.Ledgers.{Call, admit, join, withdraw}
 
 -- the values of an admit: the location in and the one out, or none

@@ -13,7 +13,7 @@ use orders::consistent_reservoir;
 use orders::consistent_reservoir::{ConsistentReservoir, Exchange};
 
 // A round's numbers: those of its reservoir, and how many slots there are, deleted ones too.
-#[derive(Drop)]
+#[derive(Clone, Copy)]
 pub struct Round {
     pub master_key: u64,
     pub k: u32,

@@ -1,5 +1,6 @@
 // Words of 64 bits: a product that wraps, a rotation, and document 01's mix.
 #![tactic(auto)]
+
 ghost use Rattle.std.specs.Prelude.{◌≡◌};
 ghost use Rattle.words.specs.Words.{wrapping_mul, rotate_right, mix};
 

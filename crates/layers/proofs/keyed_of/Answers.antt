@@ -1,6 +1,6 @@
 -- `layers::keyed_of` meets its contract.
 -- Assumes nothing.
-use Rattle.std.proofs.Common.{◌≡◌, ◌+◌, ◌/◌, arith, rules}
+use Rattle.std.proofs.Common.{◌≡◌, ◌+◌, ◌/◌, arith}
 use Rattle.layers.specs.InnerRows.{row_of}
 use Rattle.layers.proofs.RowLaws.{half, four_rounds, rounds_of_row}
 use Rattle.layers.proofs.keyed_of.Goals as goal

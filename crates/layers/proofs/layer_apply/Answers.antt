@@ -1,6 +1,6 @@
 -- `layers::layer_apply` meets its contract.
 -- Assumes nothing.
-use Rattle.std.proofs.Common.{◌<◌, ◌≤◌, ap, ◌∙◌, arith, rules, le-ltb, lt-ltb, le-leb}
+use Rattle.std.proofs.Common.{◌<◌, ◌≤◌, ap, ◌∙◌, arith, le-ltb, lt-ltb, le-leb}
 use borrow.Author.Tests.{lt-leb}
 use Rattle.lists.specs.Told.{says}
 use Rattle.layers.specs.Layer.{size}

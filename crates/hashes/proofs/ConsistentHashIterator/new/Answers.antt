@@ -3,7 +3,6 @@
 use mathlib.Core.Path.{sym, ap, ◌∙◌}
 use Prim.Native.Nat.{ℕ}
 use native.Mathlib.Omega.{arith}
-use borrow.Author.Rules.{rules}
 use Rattle.lists.specs.Told.{says}
 use Rattle.hashes.proofs.CallLaws.{limited_in, limited_out}
 use Rattle.hashes.proofs.ConsistentHashIterator.new.Goals as goal

@@ -2,7 +2,6 @@
 -- Assumes nothing.
 use mathlib.Core.Path.{sym, ap}
 use native.Mathlib.Omega.{arith}
-use borrow.Author.Rules.{rules}
 use Rattle.hashes.specs.Walks.{go_on_above, rise}
 use Rattle.hashes.proofs.NextLaws.{from_none, from_some, from_le}
 use Rattle.hashes.proofs.ConsistentHashIterator.next.Goals as goal

@@ -4,7 +4,6 @@ use mathlib.Core.Option.{none, some}
 use mathlib.Core.Path.{◌≡◌, sym, ap, ◌∙◌}
 use Prim.Native.Nat.{ℕ}
 use native.Mathlib.Omega.{arith}
-use borrow.Author.Rules.{rules}
 use Rattle.hashes.specs.Hashes.{prev}
 use Rattle.hashes.specs.Walks.{go_on_below}
 use Rattle.hashes.proofs.CallLaws.{fall_in, fall_out}

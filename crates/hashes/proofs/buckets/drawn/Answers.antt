@@ -1,6 +1,5 @@
 -- `hashes::buckets::drawn` meets its contract.
 -- Assumes nothing.
-use borrow.Author.Rules.{rules}
 use Rattle.hashes.specs.Hashes.{draw}
 use Rattle.hashes.proofs.buckets.drawn.Goals as goal
 

@@ -1,6 +1,5 @@
 -- `hashes::buckets::fed` meets its contract.
 -- Assumes nothing.
-use borrow.Author.Rules.{rules}
 use Rattle.hashes.specs.Hashes.{feed}
 use Rattle.hashes.proofs.buckets.fed.Goals as goal
 

@@ -1,12 +1,9 @@
 -- `hashes::buckets::least_from` meets its contract.
 -- Assumes nothing.
-use mathlib.Core.Path.{◌≡◌, refl, sym, ap, ap₂, ◌∙◌}
-use Prim.Native.Nat.{ℕ, ◌-◌, ◌+◌, ◌%◌, ◌^◌, max}
-use native.Mathlib.Omega.{arith}
-use borrow.Author.Rules.{rules}
-use Rattle.hashes.specs.Hashes.{draw, draws, later_numbers}
+use mathlib.Core.Path.{◌≡◌}
+use Prim.Native.Nat.{◌^◌, max}
+use Rattle.hashes.specs.Hashes.{draws, later_numbers}
 use Rattle.hashes.specs.InnerSearch.{least_of}
-use Rattle.hashes.proofs.LoopLaws.{least_over, least_stops, least_passes}
 use Rattle.hashes.proofs.buckets.least_from.Given as goal
 
 abbrev pub invariant-loop-left : goal.invariant-loop-left

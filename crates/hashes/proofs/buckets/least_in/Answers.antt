@@ -15,4 +15,4 @@ returns-then-x-m c =
 pub returns : goal.returns
 returns c =
     let a = c.args in
-    c.least_from_lem.ensures ∙ ap (λ (o : Option ℕ). get_or o 0) (sym (least_some a.state a.j a.m _ _ c.opened-d.ensures c.first_number-x.ensures (search rules)))
+    c.least_from.ensures ∙ ap (λ (o : Option ℕ). get_or o 0) (sym (least_some a.state a.j a.m _ _ c.opened-d.ensures c.first_number-x.ensures (search rules)))

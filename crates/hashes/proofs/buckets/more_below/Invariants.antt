@@ -1,13 +1,7 @@
 -- `hashes::buckets::more_below` meets its contract.
 -- Assumes nothing.
-use mathlib.Core.Path.{◌≡◌, refl, sym, ap, ◌∙◌}
-use mathlib.Core.Bool.{cond}
-use Prim.Native.Nat.{ℕ, ◌-◌, ◌+◌, ◌%◌, ◌^◌}
-use borrow.Author.Rules.{rules}
-use Rattle.lists.specs.Lists.{below}
-use Rattle.hashes.specs.Hashes.{draw}
+use mathlib.Core.Path.{◌≡◌}
 use Rattle.hashes.specs.InnerSearch.{first_later}
-use Rattle.hashes.proofs.LoopLaws.{draws_over, draw_decides, draw_passes}
 use Rattle.hashes.proofs.buckets.more_below.Given as goal
 
 abbrev pub invariant-loop-left : goal.invariant-loop-left

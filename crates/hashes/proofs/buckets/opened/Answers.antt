@@ -1,6 +1,5 @@
 -- `hashes::buckets::opened` meets its contract.
 -- Assumes nothing.
-use borrow.Author.Rules.{rules}
 use Rattle.hashes.proofs.buckets.opened.Goals as goal
 
 pub returns : goal.returns

@@ -3,7 +3,6 @@
 use Prim.Native.Nat.{◌-◌}
 use native.Mathlib.Omega.{arith}
 use lib.Count.{leading_le}
-use borrow.Author.Rules.{rules}
 use Rattle.lists.proofs.Places.{highest_place}
 use Rattle.hashes.proofs.PrevLaws.{width_masked}
 use Rattle.hashes.proofs.search.bits_below.Goals as goal

@@ -1,14 +1,12 @@
 -- `hashes::search::smallest_from` meets its contract.
 -- Assumes nothing.
 use mathlib.Core.Path.{◌≡◌, sym, ap, ◌∙◌}
-use mathlib.Core.Bool.{true}
-use mathlib.Core.Option.{Option, none, get_or}
-use Prim.Native.Nat.{ℕ, ◌-◌, ◌^◌, ◌≤◌, ◌<◌}
+use mathlib.Core.Option.{Option, get_or}
+use Prim.Native.Nat.{ℕ, ◌^◌}
 use native.Mathlib.Omega.{arith}
 use borrow.Author.Rules.{rules}
-use Rattle.hashes.specs.Hashes.{is_set}
 use Rattle.hashes.specs.Next.{smallest_from}
-use Rattle.hashes.proofs.NextLaws.{up_to, up_low, up_skip, from_buckets, from_zero, turn_found, turn_missed}
+use Rattle.hashes.proofs.NextLaws.{up_low, up_skip, from_buckets, from_zero, turn_found, turn_missed}
 use Rattle.hashes.proofs.search.smallest_from.Goals as goal
 
 pub returns-then-m-eq0 : goal.returns-then-m-eq0

@@ -1,6 +1,6 @@
 -- `layers::KeyedLayer::apply` meets its contract.
 -- Assumes nothing.
-use Rattle.std.proofs.Common.{◌≡◌, ℕ, ◌%◌, ◌≤◌, arith, rules}
+use Rattle.std.proofs.Common.{◌≡◌, ℕ, ◌%◌, ◌≤◌, arith}
 use Rattle.layers.specs.KeyedLayers.{new_right, applied}
 use Rattle.layers.specs.InnerRounds.{Within, turn}
 use Rattle.layers.proofs.RoundLaws.{turn_new, turn_lt, start_within, rounds_within}

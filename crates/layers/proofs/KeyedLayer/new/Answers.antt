@@ -1,6 +1,6 @@
 -- `layers::KeyedLayer::new` meets its contract.
 -- Assumes nothing.
-use Rattle.std.proofs.Common.{ap, arith, rules, le-leb}
+use Rattle.std.proofs.Common.{ap, arith, le-leb}
 use borrow.Author.Tests.{lt-leb}
 use Rattle.lists.specs.Told.{says}
 use Rattle.layers.specs.KeyedLayers.{keyed}

@@ -1,6 +1,6 @@
 -- `layers::feistel::mask_of` meets its contract.
 -- Assumes nothing.
-use Rattle.std.proofs.Common.{arith, pow_pos, rules}
+use Rattle.std.proofs.Common.{arith, pow_pos}
 use Rattle.lists.proofs.Numbers.{one_shl}
 use Rattle.layers.proofs.feistel.mask_of.Goals as goal
 

@@ -1,6 +1,6 @@
 -- `layers::feistel::network` meets its contract.
 -- Assumes nothing.
-use Rattle.std.proofs.Common.{arith, rules}
+use Rattle.std.proofs.Common.{arith}
 use Rattle.layers.proofs.RoundLaws.{start_within, rounds_within}
 use Rattle.layers.proofs.feistel.network.Goals as goal
 

@@ -1,6 +1,5 @@
 -- `layers::feistel::next_key` meets its contract.
 -- Assumes nothing.
-use Rattle.std.proofs.Common.{rules}
 use Rattle.layers.specs.Layer.{next_key}
 use Rattle.layers.proofs.feistel.next_key.Goals as goal
 

@@ -1,6 +1,6 @@
 -- `layers::feistel::over_of` meets its contract.
 -- Assumes nothing.
-use Rattle.std.proofs.Common.{arith, shl_exact, rules}
+use Rattle.std.proofs.Common.{arith, shl_exact}
 use lib.Bits.{or_shifted}
 use Rattle.layers.specs.Layer.{over}
 use Rattle.layers.proofs.feistel.over_of.Goals as goal

@@ -1,7 +1,7 @@
 -- `layers::feistel::product` meets its contract.
 -- Assumes nothing.
 use lib.Bits.{xor_lt}
-use Rattle.std.proofs.Common.{arith, rules}
+use Rattle.std.proofs.Common.{arith}
 use Rattle.lists.proofs.Numbers.{mul_lt_pow}
 use Rattle.layers.proofs.feistel.product.Goals as goal
 

@@ -1,6 +1,6 @@
 -- `layers::feistel::round_of` meets its contract.
 -- Assumes nothing.
-use Rattle.std.proofs.Common.{arith, rules}
+use Rattle.std.proofs.Common.{arith}
 use Rattle.layers.specs.Layer.{round}
 use Rattle.layers.proofs.RoundLaws.{turn_new, new_round}
 use Rattle.layers.proofs.feistel.round_of.Goals as goal

@@ -1,6 +1,6 @@
 -- `layers::feistel::rounds_of` meets its contract.
 -- Assumes nothing.
-use Rattle.std.proofs.Common.{◌≡◌, ◌-◌, sym, refl, ap, ◌∙◌, arith, rules}
+use Rattle.std.proofs.Common.{◌≡◌, ◌-◌, sym, ap, ◌∙◌, arith}
 use Rattle.layers.specs.Layer.{rounds}
 use Rattle.layers.proofs.RoundLaws.{rounds_step}
 use Rattle.layers.proofs.feistel.rounds_of.Goals as goal

@@ -1,8 +1,7 @@
 -- `layers::feistel::rounds_of` meets its contract.
 -- Assumes nothing.
-use Rattle.std.proofs.Common.{◌≡◌, ◌-◌, sym, refl, ap, ◌∙◌, arith, rules}
+use Rattle.std.proofs.Common.{◌≡◌}
 use Rattle.layers.specs.Layer.{rounds}
-use Rattle.layers.proofs.RoundLaws.{rounds_step}
 use Rattle.layers.proofs.feistel.rounds_of.Given as goal
 
 abbrev pub invariant-loop-left : goal.invariant-loop-left

@@ -1,7 +1,6 @@
 -- `layers::feistel::start_of` meets its contract.
 -- Assumes nothing.
 use lib.Bits.{and_mask}
-use Rattle.std.proofs.Common.{rules}
 use Rattle.layers.specs.Layer.{start}
 use Rattle.layers.proofs.feistel.start_of.Goals as goal
 

@@ -1,6 +1,5 @@
 -- `layers::feistel::turned` meets its contract.
 -- Assumes nothing.
-use Rattle.std.proofs.Common.{rules}
 use Rattle.layers.specs.InnerRounds.{turn}
 use Rattle.layers.proofs.feistel.turned.Goals as goal
 

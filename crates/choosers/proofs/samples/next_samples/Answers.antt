@@ -1,0 +1,36 @@
+-- `choosers::samples::next_samples` meets its contract.
+-- Assumes nothing.
+use mathlib.Core.Path.{◌≡◌, refl, ◌∙◌}
+use native.Mathlib.Omega.{arith}
+use borrow.Author.Rules.{rules}
+use lib.ListN.{length-set}
+use lib.Seq.{drop-set-lt}
+use Rattle.choosers.proofs.ChooseLaws.{top_none, top_more, owns_more, own_or_set}
+use Rattle.choosers.proofs.samples.next_samples.Goals as goal
+
+pub loop-i-init : goal.loop-i-init
+loop-i-init c = (omega arith, refl, top_none _ _, λ j p. absurd (omega arith), refl, c.requires.3)
+
+pub refreshed-x-requires : goal.refreshed-x-requires
+refreshed-x-requires c = (search rules, search rules, c.loop-i.invariant.5 _ (search rules))
+
+pub loop-i-preserved : goal.loop-i-preserved
+loop-i-preserved c =
+    let a = c.args in
+    let l = c.loop-i in
+    let x = c.refreshed-x.result in
+    let e = c.refreshed-x.ensures in (
+      omega arith,
+      length-set l.list l.i x ∙ l.invariant.1,
+      top_more a.state l.i a.m l.high c.larger_of-high.result x l.invariant.2 e c.larger_of-high.ensures,
+      owns_more a.state l.list l.i a.m x (search rules) l.invariant.3 e,
+      drop-set-lt a.k l.list l.i x (omega arith) ∙ l.invariant.4,
+      own_or_set a.state l.list a.k l.i a.m x (search rules) l.invariant.5 e,
+    )
+
+pub returns : goal.returns
+returns c =
+    let a = c.args in
+    let l = c.loop-i in
+    let e : l.i ≡ a.k = omega arith in
+    (rw (← e) l.invariant.2, rw (← e) l.invariant.3, l.invariant.4)

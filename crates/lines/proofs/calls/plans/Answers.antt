@@ -1,0 +1,20 @@
+-- `lines::calls::plans` meets its contract.
+-- Assumes nothing.
+use native.Mathlib.Omega.{arith}
+use Rattle.lines.proofs.LineLaws.{plan_none, plan_on, plan_prints}
+use Rattle.lines.proofs.calls.plans.Goals as goal
+
+pub returns-in-Nothing : goal.returns-in-Nothing
+returns-in-Nothing c = record {
+  scratch_after = plan_none _ _ _ _ _ _ c.in-Nothing.is;
+  printable = tt;
+}
+
+pub returns-in-Open : goal.returns-in-Open
+returns-in-Open c =
+    let call = c.plan in
+    let given = c.in-Open.is in
+    let out = c.plan_output in record {
+      scratch_after = plan_on _ _ _ _ _ _ _ _ call.result call.ensures.terminals_after out.result out.ensures _ given;
+      printable = plan_prints _ _ _ _ _ _ _ _ call.result call.ensures.terminals_after out.result out.ensures (omega arith) (omega arith);
+    }

@@ -1,0 +1,13 @@
+-- `lines::texts::put_bytes` meets its contract.
+-- Assumes nothing.
+use mathlib.Core.Path.{◌≡◌}
+use Prim.Native.Nat.{◌+◌, ◌-◌, ◌≤◌}
+use lib.ListN.{length, take}
+use Rattle.lines.specs.InnerLines.{Put}
+use Rattle.lines.proofs.texts.put_bytes.Given as goal
+
+abbrev pub invariant-loop-i : goal.invariant-loop-i
+invariant-loop-i l = (l.i ≤ length l.text) × (length l.out ≡ length l.initial.out) × Put l.initial.out l.at (take l.i l.text) l.out (l.at + l.i)
+
+abbrev pub decreases-loop-i : goal.decreases-loop-i
+decreases-loop-i l = length l.text - l.i
