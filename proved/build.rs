@@ -1,4 +1,4 @@
-//! Links the archive that `rt staticlib exports` writes.
+//! Links the archive that `proved/make` writes.
 
 use std::env;
 use std::path::PathBuf;

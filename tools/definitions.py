@@ -2,13 +2,22 @@
 import os
 import re
 
-NAME = r"[A-Za-z«][\w«»·'′₀-₉]*(?:-[\w'′]+)*"
+NAME = r"[A-Za-z«][\w«»'′₀-₉]*(?:-[\w'′]+)*"
 KEYWORDS = {'record', 'let', 'in', 'use', 'pub', 'where', 'abbrev', 'unfoldable', 'data', 'as', 'λ'}
+TABLE = []
 
 
 def crates():
     """The crates of crates.txt, in its order, which puts a crate after those it rests on."""
-    return re.findall(r'^(\w+):', open('crates.txt').read(), re.M)
+    if not TABLE:
+        TABLE.extend(re.findall(r'^(\w+)((?: [^:#\n]*)?):', open('crates.txt', encoding='utf-8').read(), re.M))
+    return [name for name, _ in TABLE]
+
+
+def static_crates():
+    """Those that are static libraries."""
+    crates()
+    return [name for name, words in TABLE if 'staticlib' in words.split()]
 
 
 def bare(text, mark):
@@ -16,30 +25,37 @@ def bare(text, mark):
     return re.sub(r'(^|\s)' + re.escape(mark) + r'(?=\s|$)[^\n]*', r'\1', text)
 
 
+def root_of(crate):
+    """The file that a crate's source begins with."""
+    base = os.path.join('crates', crate, 'src')
+    return next((f for f in ('lib.rt', 'main.rt') if os.path.isfile(os.path.join(base, f))), 'lib.rt')
+
+
 def module_of(path):
     """Where a `use` line leads: ('spec', crate, file), ('type', crate, rt file, type), or None for the kit."""
-    m = re.match(r'Rattle·(\w+?)(?:·specs)?\.specs\.(.+)$', path)
-    if not m:
+    m = re.match(r'Rattle\.(\w+)\.specs\.(.+)$', path)
+    if not m or m.group(1) not in crates():
         return None
-    crate, rest = m.group(1), m.group(2).removeprefix('specs.').split('.')
+    crate, rest = m.group(1), m.group(2).split('.')
     if rest[0] != 'declared':
         return ('spec', crate, rest[0])
-    rest = [r for r in rest[1:] if r != 'the-variants']
-    return ('type', crate, (rest[0] if len(rest) > 1 else 'lib') + '.rt', rest[-1])
+    rest = [r for r in rest[1:] if r != 'TheVariants']
+    return ('type', crate, rest[0] + '.rt' if len(rest) > 1 else root_of(crate), rest[-1])
 
 
 def uses(text, word):
-    """(names, aliases) that the `use` lines bring: each to where it leads."""
+    """(names, aliases) that the `use` lines bring: each name to where it leads and what it is called there, each alias to where it leads."""
     names, aliases = {}, {}
-    for m in re.finditer(word + r'\s+([\w·.\-]+?)(?:\.\{([^}]*)\}|\s+as\s+(\w+))', text):
+    for m in re.finditer(r'^(?:pub )?' + word + r'\s+([\w.\-]+?)(?:\.\{([^}]*)\}|\s+as\s+(\w+))?;?\s*$', text, re.M):
         where = module_of(m.group(1))
         if where is None:
             continue
-        if m.group(3):
-            aliases[m.group(3)] = where
-        else:
-            for name in re.findall(NAME + r'|[^\s,]+', m.group(2)):
-                names[name] = where
+        if m.group(2) is None:
+            aliases[m.group(3) or m.group(1).split('.')[-1]] = where
+            continue
+        for brought in m.group(2).split(','):
+            name, _, called = brought.strip().partition(' as ')
+            names[called.strip() or name] = (where, name)
     return names, aliases
 
 
@@ -54,7 +70,7 @@ class Spec:
         text = bare(raw, '--')
         self.names, self.aliases = uses(text, 'use')
         self.text, self.owner = {}, {}
-        heads = list(re.finditer(r'^(?:abbrev |unfoldable )?pub (?:record |data )?(' + NAME + r')', text, re.M))
+        heads = list(re.finditer(r'^(?:abbrev |unfoldable )?pub (?!use |mod )(?:record |data )?(' + NAME + r')', text, re.M))
         for at, m in enumerate(heads):
             end = heads[at + 1].start() if at + 1 < len(heads) else len(text)
             body, name = text[m.start():end], m.group(1)
@@ -82,15 +98,23 @@ def lead(where, name):
     return ('spec', where[1], where[2], s.owner[name]) if name in s.owner else None
 
 
+def unknown(text, word):
+    """The names that `use` lines bring from a file of specs/ that does not declare them."""
+    return [name for name, (where, called) in uses(text, word)[0].items() if where[0] == 'spec' and not lead(where, called)]
+
+
 def cited(text, names, aliases, hidden=()):
-    """The definitions and types that a text names."""
+    """The definitions and types that a text names. What follows a name tightly, as in `state.list`, is a field of it, unless the name is a
+    module's."""
     found = []
-    for m in re.finditer(r'(?<![\w.«])(?:(' + NAME + r')\.)?(' + NAME + r')', text):
+    for m in re.finditer(r"(?<![\w.«'′])(" + NAME + r')(?:\.(' + NAME + r'))?', text):
         first, name = m.group(1), m.group(2)
-        if first and first in aliases:
+        if first in hidden or first in KEYWORDS:
+            to = None
+        elif name and first in aliases:
             to = lead(aliases[first], name)
-        elif name in names and name not in hidden and name not in KEYWORDS:
-            to = lead(names[name], name)
+        elif first in names:
+            to = lead(*names[first])
         else:
             to = None
         if to and to not in found:
@@ -105,7 +129,7 @@ def below(item):
     s = spec(item[1], item[2])
     names = dict(s.names)
     for name in s.owner:
-        names[name] = ('spec', s.crate, s.file)
+        names[name] = (('spec', s.crate, s.file), name)
     return [x for x in cited(s.text[item[3]], names, s.aliases) if x != item]
 
 
@@ -123,7 +147,8 @@ def all_below(items):
 def file_depth(crate, file, seen=()):
     """How many files of its own crate a file of specs/ rests on, one below the other."""
     s = spec(crate, file)
-    uses_ = {w[2] for w in list(s.names.values()) + list(s.aliases.values()) if w[0] == 'spec' and w[1] == crate}
+    led = [w for w, _ in s.names.values()] + list(s.aliases.values())
+    uses_ = {w[2] for w in led if w[0] == 'spec' and w[1] == crate}
     return 1 + max([file_depth(crate, f, seen + (file,)) for f in uses_ if f not in seen + (file,)], default=0)
 
 

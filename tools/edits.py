@@ -1,11 +1,14 @@
 """Wrong programs as text, for tools/wrong and tools/promises.
 
 An edit has lines `call: NAME` (whose answer it spoils; one or more), `wrong: WORDS` (how), and the change: `file: PATH`, then pairs
-`old: TEXT` and `new: TEXT`. The old text must stand there once; after a line `in: NAME` that is asked of the function NAME alone.
-One edit is a file of crates/CRATE/must-fail, which the gate tries; many stand in crates/CRATE/wrong.txt, parted by empty lines.
+`old: TEXT` and `new: TEXT`. The old text must stand there once; after a line `in: NAME` that is asked of the body of the function NAME
+alone. One edit is a file of crates/CRATE/must-fail, which the gate tries, and which knows no `in:`; many stand in
+crates/CRATE/wrong.txt, parted by empty lines.
 """
 import os
 import re
+
+from functions import parted
 
 
 class Edit:
@@ -51,9 +54,7 @@ def changed(text, inside, old, new):
         at = re.search(r'\bfn ' + re.escape(inside) + r'\b', text)
         if not at:
             return None
-        start = at.start()
-        after = re.search(r'\bfn \w', text[at.end():])
-        end = at.end() + after.start() if after else end
+        start, end = parted(text, at.start())[2:]
     part = text[start:end]
     if not old or part.count(old) != 1:
         return None

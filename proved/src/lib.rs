@@ -1,4 +1,4 @@
-//! The proved library, for Rust. Nothing checks these declarations against crates/exports, so they stand here once.
+//! The proved library, for Rust. Nothing checks these declarations against crates/exports_c, so they stand here once.
 
 extern "C" {
     fn perillajamb_wrapping_mul(a: u64, b: u64) -> u64;

@@ -78,8 +78,7 @@ fn store_drawn(d: Drawn, words: &mut [u64]) -> u64
 }
 
 // No sample of 0..n yet.
-#[unsafe(no_mangle)]
-pub extern "C" fn perillajamb_chooser_new(state: u64, n: u64, words: &mut [u64]) -> u64
+pub fn perillajamb_chooser_new(state: u64, n: u64, words: &mut [u64]) -> u64
     ensures { crossed_one result words.new ≡ new_crossed state n words.old }
 {
     if words.len() < 3 {
@@ -91,8 +90,7 @@ pub extern "C" fn perillajamb_chooser_new(state: u64, n: u64, words: &mut [u64])
 }
 
 // The k samples of 0..n.
-#[unsafe(no_mangle)]
-pub extern "C" fn perillajamb_chooser_new_with_k(
+pub fn perillajamb_chooser_new_with_k(
     state: u64,
     n: u64,
     k: u64,
@@ -110,8 +108,7 @@ pub extern "C" fn perillajamb_chooser_new_with_k(
 }
 
 // One sample more.
-#[unsafe(no_mangle)]
-pub extern "C" fn perillajamb_chooser_grow_k(words: &mut [u64], list: &mut [u64]) -> u64
+pub fn perillajamb_chooser_grow_k(words: &mut [u64], list: &mut [u64]) -> u64
     ensures { crossed result words.new list.new ≡ grow_crossed words.old list.old }
 {
     if words.len() < 3 {
@@ -123,8 +120,7 @@ pub extern "C" fn perillajamb_chooser_grow_k(words: &mut [u64], list: &mut [u64]
 }
 
 // The next number of the choice order.
-#[unsafe(no_mangle)]
-pub extern "C" fn perillajamb_chooser_next(words: &mut [u64], list: &mut [u64]) -> u64
+pub fn perillajamb_chooser_next(words: &mut [u64], list: &mut [u64]) -> u64
     ensures { crossed result words.new list.new ≡ next_crossed words.old list.old }
 {
     if words.len() < 3 {
@@ -136,8 +132,7 @@ pub extern "C" fn perillajamb_chooser_next(words: &mut [u64], list: &mut [u64]) 
 }
 
 // n becomes the last sample.
-#[unsafe(no_mangle)]
-pub extern "C" fn perillajamb_chooser_shrink_n(words: &mut [u64], list: &mut [u64]) -> u64
+pub fn perillajamb_chooser_shrink_n(words: &mut [u64], list: &mut [u64]) -> u64
     ensures { crossed result words.new list.new ≡ shrink_crossed words.old list.old }
 {
     if words.len() < 3 {
@@ -149,8 +144,7 @@ pub extern "C" fn perillajamb_chooser_shrink_n(words: &mut [u64], list: &mut [u6
 }
 
 // Whether the record fits its list: 1 or 0.
-#[unsafe(no_mangle)]
-pub extern "C" fn perillajamb_chooser_fits(words: &[u64], list: &[u64]) -> u64
+pub fn perillajamb_chooser_fits(words: &[u64], list: &[u64]) -> u64
     ensures { result ≡ fits_crossed words.now list.now }
 {
     if words.len() < 3 {

@@ -1,4 +1,4 @@
-// The library for programs in C and Rust: functions on numbers, with the promises of what they call.
+// The library for programs in C and Rust, which link it as `exports_c`: functions on numbers, with the promises of what they call.
 #![tactic(auto)]
 
 pub mod chooser;
@@ -24,29 +24,25 @@ use hashes::{
 };
 use layers::{Applied, Keyed, KeyedLayer};
 
-#[unsafe(no_mangle)]
-pub extern "C" fn perillajamb_wrapping_mul(a: u64, b: u64) -> u64
+pub fn perillajamb_wrapping_mul(a: u64, b: u64) -> u64
     ensures { result ≡ wrapping_mul a b }
 {
     words::wrapping_mul(a, b)
 }
 
-#[unsafe(no_mangle)]
-pub extern "C" fn perillajamb_rotate_right(x: u64, places: u32) -> u64
+pub fn perillajamb_rotate_right(x: u64, places: u32) -> u64
     ensures { result ≡ rotate_right x places }
 {
     words::rotate_right(x, places)
 }
 
-#[unsafe(no_mangle)]
-pub extern "C" fn perillajamb_splitmix64(v: u64) -> u64
+pub fn perillajamb_splitmix64(v: u64) -> u64
     ensures { result ≡ mix v }
 {
     words::splitmix64(v)
 }
 
-#[unsafe(no_mangle)]
-pub extern "C" fn perillajamb_layer_apply(layer: u32, key: u64, x: u32) -> u64
+pub fn perillajamb_layer_apply(layer: u32, key: u64, x: u32) -> u64
     ensures { result ≡ coded (layer_apply layer key x) }
 {
     match layers::layer_apply(layer, key, x) {
@@ -69,8 +65,7 @@ fn xor_outputs(f: KeyedLayer, n: u32) -> u64
 }
 
 // What one layer applied in a loop over its inputs costs.
-#[unsafe(no_mangle)]
-pub extern "C" fn perillajamb_layer_xors(layer: u32, key: u64, n: u32) -> u64
+pub fn perillajamb_layer_xors(layer: u32, key: u64, n: u32) -> u64
     ensures { result ≡ coded (layer_xors layer key n) }
 {
     match KeyedLayer::new(layer, key) {
@@ -79,8 +74,7 @@ pub extern "C" fn perillajamb_layer_xors(layer: u32, key: u64, n: u32) -> u64
     }
 }
 
-#[unsafe(no_mangle)]
-pub extern "C" fn perillajamb_seq_builder(state: u64, i: u64) -> u64
+pub fn perillajamb_seq_builder(state: u64, i: u64) -> u64
     ensures { result ≡ feed state i }
 {
     hashes::seq_builder(state, i)
@@ -97,30 +91,26 @@ fn coded_found(found: Found) -> u64
     }
 }
 
-#[unsafe(no_mangle)]
-pub extern "C" fn perillajamb_prev(state: u64, n: u64) -> u64
+pub fn perillajamb_prev(state: u64, n: u64) -> u64
     ensures { result ≡ coded_hash (prev_call state n) }
 {
     coded_found(ConsistentHasher::new(state).prev(n))
 }
 
-#[unsafe(no_mangle)]
-pub extern "C" fn perillajamb_into_prev(state: u64, n: u64) -> u64
+pub fn perillajamb_into_prev(state: u64, n: u64) -> u64
     ensures { result ≡ coded_hash (prev_call state n) }
 {
     coded_found(ConsistentHasher::new(state).into_prev(n))
 }
 
-#[unsafe(no_mangle)]
-pub extern "C" fn perillajamb_next(state: u64, n: u64) -> u64
+pub fn perillajamb_next(state: u64, n: u64) -> u64
     ensures { result ≡ coded_hash (next_call state n) }
 {
     coded_found(ConsistentHasher::new(state).next(n))
 }
 
 // A step of the falling walk: the largest hash below n. After a hash the walk's n is that hash.
-#[unsafe(no_mangle)]
-pub extern "C" fn perillajamb_falling_next(state: u64, n: u64) -> u64
+pub fn perillajamb_falling_next(state: u64, n: u64) -> u64
     ensures { result ≡ coded_hash (fall (record { state = state; n = n })).said }
 {
     let walk = ConsistentHashRevIterator { state, n };
@@ -130,8 +120,7 @@ pub extern "C" fn perillajamb_falling_next(state: u64, n: u64) -> u64
 }
 
 // Where the rising walk from n starts: its `low`.
-#[unsafe(no_mangle)]
-pub extern "C" fn perillajamb_rising_low(n: u64) -> u64
+pub fn perillajamb_rising_low(n: u64) -> u64
     ensures { result ≡ coded_number (limited n (low n)) }
 {
     match ConsistentHashIterator::new(n, 0) {
@@ -141,8 +130,7 @@ pub extern "C" fn perillajamb_rising_low(n: u64) -> u64
 }
 
 // A step of the rising walk: the smallest hash of `low` or more. After a hash the walk's `low` is one above it.
-#[unsafe(no_mangle)]
-pub extern "C" fn perillajamb_rising_next(state: u64, low: u64) -> u64
+pub fn perillajamb_rising_next(state: u64, low: u64) -> u64
     ensures { result ≡ coded_hash (rise (record { state = state; low = low })).said }
 {
     let walk = ConsistentHashIterator { state, low };
@@ -152,8 +140,7 @@ pub extern "C" fn perillajamb_rising_next(state: u64, low: u64) -> u64
 }
 
 // Every hash of the falling walk from n, as one number.
-#[unsafe(no_mangle)]
-pub extern "C" fn perillajamb_falling_digest(state: u64, n: u64) -> u64
+pub fn perillajamb_falling_digest(state: u64, n: u64) -> u64
     ensures { result ≡ coded_number (falling_digest state n) }
 {
     match ConsistentHashRevIterator::new(n, state) {
@@ -163,8 +150,7 @@ pub extern "C" fn perillajamb_falling_digest(state: u64, n: u64) -> u64
 }
 
 // Every hash of the rising walk from n, as one number.
-#[unsafe(no_mangle)]
-pub extern "C" fn perillajamb_rising_digest(state: u64, n: u64) -> u64
+pub fn perillajamb_rising_digest(state: u64, n: u64) -> u64
     ensures { result ≡ coded_number (rising_digest state n) }
 {
     match ConsistentHashIterator::new(n, state) {

@@ -61,8 +61,7 @@ fn store(o: ConsistentPermutation, ws: &mut [u32])
 }
 
 // A new order of 0..n.
-#[unsafe(no_mangle)]
-pub extern "C" fn perillajamb_order_new(n: u32, key: u64, ws: &mut [u32]) -> u64
+pub fn perillajamb_order_new(n: u32, key: u64, ws: &mut [u32]) -> u64
     ensures { crossed_one result ws.new ≡ new_order_crossed n key ws.old }
 {
     if ws.len() < 18 {
@@ -132,8 +131,7 @@ fn run(ws: &mut [u32], count: u32) -> Ran
 }
 
 // Its next number.
-#[unsafe(no_mangle)]
-pub extern "C" fn perillajamb_order_next(ws: &mut [u32]) -> u64
+pub fn perillajamb_order_next(ws: &mut [u32]) -> u64
     ensures { crossed_one result ws.new ≡ next_order_crossed ws.old }
 {
     if ws.len() < 18 {
@@ -155,8 +153,7 @@ fn numbers_fed(n: u32, key: u64, count: u32) -> u64
 }
 
 // The first `count` numbers of the order of 0..n, as one number.
-#[unsafe(no_mangle)]
-pub extern "C" fn perillajamb_order_digest(n: u32, key: u64, count: u32) -> u64
+pub fn perillajamb_order_digest(n: u32, key: u64, count: u32) -> u64
     ensures { result ≡ coded_number (order_digest n key count) }
 {
     if ConsistentPermutation::N_LIMIT < n {

@@ -46,8 +46,7 @@ fn coded_outcome(o: Outcome) -> u64
 }
 
 // Open with k of n.
-#[unsafe(no_mangle)]
-pub extern "C" fn perillajamb_reservoir_new(
+pub fn perillajamb_reservoir_new(
     k: u32,
     n: u32,
     key: u64,
@@ -70,8 +69,7 @@ pub extern "C" fn perillajamb_reservoir_new(
 }
 
 // Admit.
-#[unsafe(no_mangle)]
-pub extern "C" fn perillajamb_reservoir_next(words: &mut [u32], list: &mut [u32]) -> u64
+pub fn perillajamb_reservoir_next(words: &mut [u32], list: &mut [u32]) -> u64
     ensures { crossed result words.new list.new ≡ next_crossed words.old list.old }
 {
     if words.len() < 6 {
@@ -94,8 +92,7 @@ pub extern "C" fn perillajamb_reservoir_next(words: &mut [u32], list: &mut [u32]
 }
 
 // The step to the next layer.
-#[unsafe(no_mangle)]
-pub extern "C" fn perillajamb_reservoir_grow_layer(words: &mut [u32], list: &mut [u32]) -> u64
+pub fn perillajamb_reservoir_grow_layer(words: &mut [u32], list: &mut [u32]) -> u64
     ensures { crossed result words.new list.new ≡ grow_crossed words.old list.old }
 {
     if words.len() < 6 {
@@ -114,8 +111,7 @@ pub extern "C" fn perillajamb_reservoir_grow_layer(words: &mut [u32], list: &mut
 }
 
 // The sample, in the first k places of `out`.
-#[unsafe(no_mangle)]
-pub extern "C" fn perillajamb_reservoir_sample(words: &[u32], list: &[u32], out: &mut [u32]) -> u64
+pub fn perillajamb_reservoir_sample(words: &[u32], list: &[u32], out: &mut [u32]) -> u64
     ensures { crossed_one result out.new ≡ sample_crossed words.now list.now out.old }
 {
     if words.len() < 6 {
@@ -127,8 +123,7 @@ pub extern "C" fn perillajamb_reservoir_sample(words: &[u32], list: &[u32], out:
 }
 
 // Whether the record fits its list: 1 or 0.
-#[unsafe(no_mangle)]
-pub extern "C" fn perillajamb_reservoir_fits(words: &[u32], list: &[u32]) -> u64
+pub fn perillajamb_reservoir_fits(words: &[u32], list: &[u32]) -> u64
     ensures { result ≡ fits_crossed words.now list.now }
 {
     if words.len() < 6 {

@@ -117,14 +117,7 @@ fn coded_outcome(o: Outcome) -> u64
 }
 
 // Open with k of n.
-#[unsafe(no_mangle)]
-pub extern "C" fn perillajamb_round_open(
-    key: u64,
-    k: u32,
-    n: u32,
-    list: &mut [u32],
-    words: &mut [u32],
-) -> u64
+pub fn perillajamb_round_open(key: u64, k: u32, n: u32, list: &mut [u32], words: &mut [u32]) -> u64
     ensures { crossed result words.new list.new ≡ open_crossed key k n list.old words.old }
 {
     if words.len() < 7 {
@@ -136,8 +129,7 @@ pub extern "C" fn perillajamb_round_open(
 }
 
 // Admit.
-#[unsafe(no_mangle)]
-pub extern "C" fn perillajamb_round_admit(words: &mut [u32], list: &mut [u32], table: &[u8]) -> u64
+pub fn perillajamb_round_admit(words: &mut [u32], list: &mut [u32], table: &[u8]) -> u64
     ensures { crossed_round result words.new list.new table.now ≡ admit_crossed words.old list.old table.now }
 {
     if words.len() < 7 {
@@ -149,8 +141,7 @@ pub extern "C" fn perillajamb_round_admit(words: &mut [u32], list: &mut [u32], t
 }
 
 // Join: the terminal's slot.
-#[unsafe(no_mangle)]
-pub extern "C" fn perillajamb_round_join(words: &mut [u32], list: &[u32], table: &mut [u8]) -> u64
+pub fn perillajamb_round_join(words: &mut [u32], list: &[u32], table: &mut [u8]) -> u64
     ensures { crossed_round result words.new list.now table.new ≡ join_crossed words.old list.now table.old }
 {
     if words.len() < 7 {
@@ -162,8 +153,7 @@ pub extern "C" fn perillajamb_round_join(words: &mut [u32], list: &[u32], table:
 }
 
 // Withdraw.
-#[unsafe(no_mangle)]
-pub extern "C" fn perillajamb_round_withdraw(
+pub fn perillajamb_round_withdraw(
     words: &mut [u32],
     list: &[u32],
     table: &mut [u8],
@@ -180,8 +170,7 @@ pub extern "C" fn perillajamb_round_withdraw(
 }
 
 // The sampled locations and their slots, in the first k places of the two lists.
-#[unsafe(no_mangle)]
-pub extern "C" fn perillajamb_round_plan(
+pub fn perillajamb_round_plan(
     words: &[u32],
     list: &[u32],
     table: &[u8],
@@ -201,8 +190,7 @@ pub extern "C" fn perillajamb_round_plan(
 }
 
 // Whether the record fits its list and its table: 1 or 0.
-#[unsafe(no_mangle)]
-pub extern "C" fn perillajamb_round_fits(words: &[u32], list: &[u32], table: &[u8]) -> u64
+pub fn perillajamb_round_fits(words: &[u32], list: &[u32], table: &[u8]) -> u64
     ensures { result ≡ fits_crossed words.now list.now table.now }
 {
     if words.len() < 7 {
@@ -213,8 +201,7 @@ pub extern "C" fn perillajamb_round_fits(words: &[u32], list: &[u32], table: &[u
 }
 
 // An open, calls and the plan after them.
-#[unsafe(no_mangle)]
-pub extern "C" fn perillajamb_round_replay(
+pub fn perillajamb_round_replay(
     key: u64,
     k: u32,
     n: u32,

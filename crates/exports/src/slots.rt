@@ -18,8 +18,7 @@ fn map_of(total: u32) -> ConsistentNodeMap
 }
 
 // The lowest deleted slot, else a new one.
-#[unsafe(no_mangle)]
-pub extern "C" fn perillajamb_slots_add(total: u32, table: &mut [u8]) -> u64
+pub fn perillajamb_slots_add(total: u32, table: &mut [u8]) -> u64
     ensures { crossed_one result table.new ≡ add_crossed total table.old }
 {
     let m = map_of(total);
@@ -35,8 +34,7 @@ pub extern "C" fn perillajamb_slots_add(total: u32, table: &mut [u8]) -> u64
 }
 
 // Takes a slot out.
-#[unsafe(no_mangle)]
-pub extern "C" fn perillajamb_slots_remove(total: u32, table: &mut [u8], slot: u32) -> u64
+pub fn perillajamb_slots_remove(total: u32, table: &mut [u8], slot: u32) -> u64
     ensures { crossed_one result table.new ≡ remove_crossed total table.old slot }
 {
     let m = map_of(total);
@@ -52,8 +50,7 @@ pub extern "C" fn perillajamb_slots_remove(total: u32, table: &mut [u8], slot: u
 }
 
 // How many slots are active.
-#[unsafe(no_mangle)]
-pub extern "C" fn perillajamb_slots_len(total: u32, table: &[u8]) -> u64
+pub fn perillajamb_slots_len(total: u32, table: &[u8]) -> u64
     ensures { result ≡ coded_number (len_call (map_of total) table.now) }
 {
     let m = map_of(total);
@@ -73,8 +70,7 @@ fn coded_truth(t: Truth) -> u64
 }
 
 // Whether none is active: 1 or 0.
-#[unsafe(no_mangle)]
-pub extern "C" fn perillajamb_slots_is_empty(total: u32, table: &[u8]) -> u64
+pub fn perillajamb_slots_is_empty(total: u32, table: &[u8]) -> u64
     ensures { result ≡ coded_truth (is_empty_call (map_of total) table.now) }
 {
     let m = map_of(total);
@@ -82,8 +78,7 @@ pub extern "C" fn perillajamb_slots_is_empty(total: u32, table: &[u8]) -> u64
 }
 
 // Whether a slot is active: 1 or 0.
-#[unsafe(no_mangle)]
-pub extern "C" fn perillajamb_slots_is_active(total: u32, table: &[u8], slot: u32) -> u64
+pub fn perillajamb_slots_is_active(total: u32, table: &[u8], slot: u32) -> u64
     ensures { result ≡ coded_truth (is_active_call (map_of total) table.now slot) }
 {
     let m = map_of(total);
@@ -91,8 +86,7 @@ pub extern "C" fn perillajamb_slots_is_active(total: u32, table: &[u8], slot: u3
 }
 
 // Whether the count fits the table: 1 or 0.
-#[unsafe(no_mangle)]
-pub extern "C" fn perillajamb_slots_fits(total: u32, table: &[u8]) -> u64
+pub fn perillajamb_slots_fits(total: u32, table: &[u8]) -> u64
     ensures { result ≡ truth (fitting (map_of total) table.now) }
 {
     let m = map_of(total);
@@ -100,13 +94,7 @@ pub extern "C" fn perillajamb_slots_fits(total: u32, table: &[u8]) -> u64
 }
 
 // The first active slot of the choice order of the count.
-#[unsafe(no_mangle)]
-pub extern "C" fn perillajamb_slots_get(
-    total: u32,
-    table: &[u8],
-    state: u64,
-    scratch: &mut [u64],
-) -> u64
+pub fn perillajamb_slots_get(total: u32, table: &[u8], state: u64, scratch: &mut [u64]) -> u64
     ensures value { result ≡ coded_number (get_call (map_of total) table.now state (length scratch.old)) }
     ensures scratch_after { ScratchAfter result scratch.old scratch.new }
 {
@@ -118,13 +106,7 @@ pub extern "C" fn perillajamb_slots_get(
 }
 
 // The same without its tests, for many lookups after one test.
-#[unsafe(no_mangle)]
-pub extern "C" fn perillajamb_first_active(
-    total: u32,
-    table: &[u8],
-    state: u64,
-    scratch: &mut [u64],
-) -> u64
+pub fn perillajamb_first_active(total: u32, table: &[u8], state: u64, scratch: &mut [u64]) -> u64
     ensures { result ≡ coded_hash (says (look_up total table.now state (length scratch.old))) }
 {
     match node_map::first_active(total, table, state, scratch) {
@@ -134,8 +116,7 @@ pub extern "C" fn perillajamb_first_active(
 }
 
 // The state of a location under a key.
-#[unsafe(no_mangle)]
-pub extern "C" fn perillajamb_location_state(key: u64, location: u32) -> u64
+pub fn perillajamb_location_state(key: u64, location: u32) -> u64
     ensures { result ≡ state_of key location }
 {
     node_map::location_state(key, location)
