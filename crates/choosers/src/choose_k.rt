@@ -111,7 +111,7 @@ impl ConsistentChooseKHasher {
 
     // One sample more: refusals 12, 1, 6, 4.
     pub fn grow_k(self, list: &mut [u64]) -> Placed
-        ensures list_after { placed result list.new ≡ grow_call self list.old }
+        ensures answer { placed result list.new ≡ grow_call self list.old }
         ensures consistent { Consistent self list.old (placed result list.new) }
     {
         if !self.fits(list) {
@@ -138,7 +138,7 @@ impl ConsistentChooseKHasher {
 
     // The next number of the choice order: refusals 12, 1, then none where k is n, 4.
     pub fn next(self, list: &mut [u64]) -> Drawn
-        ensures list_after { drawn result list.new ≡ next_call self list.old }
+        ensures answer { drawn result list.new ≡ next_call self list.old }
         ensures consistent_next { ConsistentNext self list.old (drawn result list.new) }
     {
         if !self.fits(list) {
@@ -168,7 +168,7 @@ impl ConsistentChooseKHasher {
 
     // n becomes the last sample: refusals 12, 1, 5.
     pub fn shrink_n(self, list: &mut [u64]) -> Placed
-        ensures list_after { placed result list.new ≡ shrink_call self list.old }
+        ensures answer { placed result list.new ≡ shrink_call self list.old }
         ensures consistent { Consistent self list.old (placed result list.new) }
     {
         if !self.fits(list) {

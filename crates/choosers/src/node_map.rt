@@ -238,7 +238,7 @@ impl ConsistentNodeMap {
 
     // The first active slot of the choice order of the count: refusals 12, 4, 11.
     pub fn get(self, table: &[u8], state: u64, scratch: &mut [u64]) -> Slot
-        ensures result_value { told_slot result ≡ get_call self table.now state (length scratch.old) }
+        ensures answer { told_slot result ≡ get_call self table.now state (length scratch.old) }
         ensures scratch_after { ScratchAfter result scratch.old scratch.new }
     {
         if !self.fits(table) {

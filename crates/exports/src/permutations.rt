@@ -15,7 +15,7 @@ use orders::Outcome;
 use orders::consistent_permutation::{ConsistentPermutation, Given};
 
 // What some calls of `next` came to: the answer of the last, and a state fed with all numbers.
-#[derive(Drop)]
+#[derive(Clone, Copy)]
 pub struct Ran {
     pub answer: u64,
     pub fed: u64,

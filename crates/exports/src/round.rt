@@ -178,7 +178,7 @@ pub fn perillajamb_round_plan(
     terminals: &mut [u32],
     scratch: &mut [u64],
 ) -> u64
-    ensures terminals_after { crossed_plan result locations.new terminals.new ≡ plan_crossed words.now list.now table.now locations.old terminals.old (length scratch.old) }
+    ensures answer { crossed_plan result locations.new terminals.new ≡ plan_crossed words.now list.now table.now locations.old terminals.old (length scratch.old) }
     ensures scratch_after { ScratchAfter result scratch.old scratch.new }
 {
     if words.len() < 7 {
@@ -213,7 +213,7 @@ pub fn perillajamb_round_replay(
     terminals: &mut [u32],
     scratch: &mut [u64],
 ) -> u64
-    ensures terminals_after { crossed_replay result list.new table.new answers.new locations.new terminals.new ≡ replay_crossed key k n calls.now list.old table.old answers.old locations.old terminals.old (length scratch.old) }
+    ensures answer { crossed_replay result list.new table.new answers.new locations.new terminals.new ≡ replay_crossed key k n calls.now list.old table.old answers.old locations.old terminals.old (length scratch.old) }
     ensures replayed_as { ReplayedAs result key k n calls.now (length table.old) (length scratch.old) answers.new locations.new terminals.new }
     ensures replay_scratch_as { ReplayScratchAs result (length calls.now) answers.new scratch.old scratch.new }
 {

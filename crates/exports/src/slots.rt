@@ -95,7 +95,7 @@ pub fn perillajamb_slots_fits(total: u32, table: &[u8]) -> u64
 
 // The first active slot of the choice order of the count.
 pub fn perillajamb_slots_get(total: u32, table: &[u8], state: u64, scratch: &mut [u64]) -> u64
-    ensures value { result ≡ coded_number (get_call (map_of total) table.now state (length scratch.old)) }
+    ensures answer { result ≡ coded_number (get_call (map_of total) table.now state (length scratch.old)) }
     ensures scratch_after { ScratchAfter result scratch.old scratch.new }
 {
     let m = map_of(total);

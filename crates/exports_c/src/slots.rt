@@ -63,7 +63,7 @@ pub extern "C" fn perillajamb_slots_get(
     state: u64,
     scratch: &mut [u64],
 ) -> u64
-    ensures value { result ≡ coded_number (get_call (map_of total) table.now state (length scratch.old)) }
+    ensures answer { result ≡ coded_number (get_call (map_of total) table.now state (length scratch.old)) }
     ensures scratch_after { ScratchAfter result scratch.old scratch.new }
 {
     exports::slots::perillajamb_slots_get(total, table, state, scratch)

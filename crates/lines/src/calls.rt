@@ -144,7 +144,7 @@ fn plans(
     terminals: &mut [u32],
     scratch: &mut [u64],
 ) -> Output
-    ensures scratch_after { plan_by result (site current list.now table.now) locations.new terminals.new (length scratch.old) ≡ planned (site current list.now table.now) locations.old terminals.old (length scratch.old) }
+    ensures answer { plan_by result (site current list.now table.now) locations.new terminals.new (length scratch.old) ≡ planned (site current list.now table.now) locations.old terminals.old (length scratch.old) }
     ensures printable { Printable result locations.new terminals.new }
 {
     match current {
@@ -184,7 +184,7 @@ pub(crate) fn act(
     terminals: &mut [u32],
     scratch: &mut [u64],
 ) -> Acted
-    ensures scratch_after { act_by result list.new table.new locations.new terminals.new (length scratch.old) ≡ answered (world (site current list.old table.old) locations.old terminals.old (length scratch.old)) command }
+    ensures answer { act_by result list.new table.new locations.new terminals.new (length scratch.old) ≡ answered (world (site current list.old table.old) locations.old terminals.old (length scratch.old)) command }
     ensures printable { Printable result.output locations.new terminals.new }
 {
     match command {

@@ -75,7 +75,7 @@ fn answer(
     at: usize,
 ) -> Replied
     requires { at + room_for locations.old ≤ length out.old }
-    ensures scratch_after { world (site result.current list.new table.new) locations.new terminals.new (length scratch.old) ≡ (respond (world (site current list.old table.old) locations.old terminals.old (length scratch.old)) bytes.now).world }
+    ensures world_after { world (site result.current list.new table.new) locations.new terminals.new (length scratch.old) ≡ (respond (world (site current list.old table.old) locations.old terminals.old (length scratch.old)) bytes.now).world }
     ensures says { Says (respond (world (site current list.old table.old) locations.old terminals.old (length scratch.old)) bytes.now).reply out.old at out.new result.put }
 {
     let command = commands::parse(bytes);
@@ -103,7 +103,7 @@ fn end_line(
     at: usize,
 ) -> Replied
     requires { (s.held ≤ held_most) × (held_most ≤ length line.old) × (at + room_for locations.old ≤ length out.old) }
-    ensures scratch_after { world (site result.current list.new table.new) locations.new terminals.new (length scratch.old) ≡ (respond (world_of s list.old table.old locations.old terminals.old scratch.old) (take held_most (take s.held line.old ++ bytes.now))).world }
+    ensures world_after { world (site result.current list.new table.new) locations.new terminals.new (length scratch.old) ≡ (respond (world_of s list.old table.old locations.old terminals.old scratch.old) (take held_most (take s.held line.old ++ bytes.now))).world }
     ensures says { Says (respond (world_of s list.old table.old locations.old terminals.old scratch.old) (take held_most (take s.held line.old ++ bytes.now))).reply out.old at out.new result.put }
 {
     let held = s.held;
@@ -256,7 +256,7 @@ pub fn feed(
     scratch: &mut [u64],
     out: &mut [u8],
 ) -> Fed
-    ensures out_after { after_call result (world_of result.session list.new table.new locations.new terminals.new scratch.new) line.new out.new ≡ feed_call (world_of session list.old table.old locations.old terminals.old scratch.old) line.old session.held piece.now out.old }
+    ensures answer { after_call result (world_of result.session list.new table.new locations.new terminals.new scratch.new) line.new out.new ≡ feed_call (world_of session list.old table.old locations.old terminals.old scratch.old) line.old session.held piece.now out.old }
     ensures buffers_after { BuffersAfter result.feeding line.old line.new scratch.old scratch.new }
 {
     let held = session.held;
@@ -300,7 +300,7 @@ pub fn finish(
     scratch: &mut [u64],
     out: &mut [u8],
 ) -> Fed
-    ensures out_after { after_call result (world_of result.session list.new table.new locations.new terminals.new scratch.new) line.new out.new ≡ end_call (world_of session list.old table.old locations.old terminals.old scratch.old) line.old session.held out.old }
+    ensures answer { after_call result (world_of result.session list.new table.new locations.new terminals.new scratch.new) line.new out.new ≡ end_call (world_of session list.old table.old locations.old terminals.old scratch.old) line.old session.held out.old }
     ensures buffers_after { BuffersAfter result.feeding line.old line.new scratch.old scratch.new }
 {
     let held = session.held;

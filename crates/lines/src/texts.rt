@@ -176,7 +176,7 @@ pub(crate) fn put_output(
     locations: &[u32],
     terminals: &[u32],
 ) -> usize
-    requires locations_in_bounds { at + 33 * length locations.now + 32 ≤ length out.old }
+    requires room { at + 33 * length locations.now + 32 ≤ length out.old }
     requires printable { Printable output locations.now terminals.now }
     ensures { Put out.old at (text_of (reply_of output locations.now terminals.now)) out.new result }
 {

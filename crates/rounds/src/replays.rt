@@ -132,7 +132,7 @@ fn run_calls(
     answers: &mut [u32],
 ) -> Round
     requires { 4 * length calls.now ≤ length answers.old }
-    ensures table_after { state result list.new table.new ≡ after_all (state r list.old table.old) (map call_of calls.now) }
+    ensures state_after { state result list.new table.new ≡ after_all (state r list.old table.old) (map call_of calls.now) }
     ensures answers_after { answers.new ≡ written (coded_all (all_said (state r list.old table.old) (map call_of calls.now))) answers.old }
 {
     let mut s = r;
@@ -159,7 +159,7 @@ fn run(
     scratch: &mut [u64],
 )
     requires { 4 * length calls.now + 4 ≤ length answers.old }
-    ensures terminals_after { after_replay (says tt) list.new table.new answers.new locations.new terminals.new ≡ run_of (state r list.old table.old) (map call_of calls.now) answers.old locations.old terminals.old (length scratch.old) }
+    ensures answer { after_replay (says tt) list.new table.new answers.new locations.new terminals.new ≡ run_of (state r list.old table.old) (map call_of calls.now) answers.old locations.old terminals.old (length scratch.old) }
     ensures scratch_run { ScratchRun (length calls.now) answers.new scratch.old scratch.new }
 {
     let s = run_calls(r, calls, list, table, answers);
@@ -207,7 +207,7 @@ pub fn replay(
     terminals: &mut [u32],
     scratch: &mut [u64],
 ) -> Outcome
-    ensures terminals_after { after_replay (told_outcome result) list.new table.new answers.new locations.new terminals.new ≡ replay_call key k n calls.now list.old table.old answers.old locations.old terminals.old (length scratch.old) }
+    ensures answer { after_replay (told_outcome result) list.new table.new answers.new locations.new terminals.new ≡ replay_call key k n calls.now list.old table.old answers.old locations.old terminals.old (length scratch.old) }
     ensures replayed { Replayed result key k n calls.now (length table.old) (length scratch.old) answers.new locations.new terminals.new }
     ensures replay_scratch { ReplayScratch result (length calls.now) answers.new scratch.old scratch.new }
 {

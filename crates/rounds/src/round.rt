@@ -264,7 +264,7 @@ pub fn plan(
     terminals: &mut [u32],
     scratch: &mut [u64],
 ) -> Outcome
-    ensures terminals_after { after_plan (told_outcome result) locations.new terminals.new ≡ plan_call (state r list.now table.now) locations.old terminals.old (length scratch.old) }
+    ensures answer { after_plan (told_outcome result) locations.new terminals.new ≡ plan_call (state r list.now table.now) locations.old terminals.old (length scratch.old) }
     ensures scratch_after { ScratchAfter result scratch.old scratch.new }
 {
     match is_idle(r, list, table) {

@@ -15,4 +15,4 @@ returns-then-words-lt3 c = rw (c.refused.ensures, lt-ltb _ 3 c.if-words-lt3.true
 pub returns : goal.returns
 unfolding grow_crossed
 returns c =
-    crosses _ (search rules) _ _ coded_number grow_call _ _ (placed c.grow_k-p.result _) c.loaded-c.ensures c.grow_k-p.ensures.list_after c.store_placed.ensures
+    crosses _ (search rules) _ _ coded_number grow_call _ _ (placed c.grow_k-p.result _) c.loaded-c.ensures c.grow_k-p.ensures.answer c.store_placed.ensures

@@ -15,4 +15,4 @@ returns-then-words-lt3 c = rw (c.refused.ensures, lt-ltb _ 3 c.if-words-lt3.true
 pub returns : goal.returns
 unfolding next_crossed
 returns c =
-    crosses _ (search rules) _ _ coded_hash next_call _ _ (drawn c.next-d.result _) c.loaded-c.ensures c.next-d.ensures.list_after c.store_drawn.ensures
+    crosses _ (search rules) _ _ coded_hash next_call _ _ (drawn c.next-d.result _) c.loaded-c.ensures c.next-d.ensures.answer c.store_drawn.ensures

@@ -15,4 +15,4 @@ returns-then-words-lt3 c = rw (c.refused.ensures, lt-ltb _ 3 c.if-words-lt3.true
 pub returns : goal.returns
 unfolding shrink_crossed
 returns c =
-    crosses _ (search rules) _ _ coded_number shrink_call _ _ (placed c.shrink_n-p.result _) c.loaded-c.ensures c.shrink_n-p.ensures.list_after c.store_placed.ensures
+    crosses _ (search rules) _ _ coded_number shrink_call _ _ (placed c.shrink_n-p.result _) c.loaded-c.ensures c.shrink_n-p.ensures.answer c.store_placed.ensures

@@ -10,7 +10,7 @@ use Rattle.exports.proofs.round.perillajamb_round_plan.Goals as goal
 pub returns-then-words-lt7 : goal.returns-then-words-lt7
 unfolding plan_crossed
 returns-then-words-lt7 c = record {
-  terminals_after = rw (c.refused.ensures, lt-ltb _ 7 c.if-words-lt7.true);
+  answer = rw (c.refused.ensures, lt-ltb _ 7 c.if-words-lt7.true);
   scratch_after = λ _. refl;
 }
 
@@ -18,6 +18,6 @@ pub returns : goal.returns
 returns c =
     let l = c.loaded-r in
     record {
-      terminals_after = plan_crosses _ (search rules) _ _ _ _ _ _ _ _ _ c.plan-o.result l.ensures c.plan-o.ensures.terminals_after c.coded_outcome.ensures;
+      answer = plan_crosses _ (search rules) _ _ _ _ _ _ _ _ _ c.plan-o.result l.ensures c.plan-o.ensures.answer c.coded_outcome.ensures;
       scratch_after = outcome_spares c.plan-o.result _ _ _ c.coded_outcome.ensures c.plan-o.ensures.scratch_after;
     }

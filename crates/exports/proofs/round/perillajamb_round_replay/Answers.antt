@@ -8,7 +8,7 @@ returns c =
     let g = c.replay-o in
     let coded = c.coded_outcome.ensures in
     record {
-      terminals_after = replay_crosses _ _ _ _ _ _ _ _ _ _ _ _ _ _ _ _ g.result coded g.ensures.terminals_after;
+      answer = replay_crosses _ _ _ _ _ _ _ _ _ _ _ _ _ _ _ _ g.result coded g.ensures.answer;
       replayed_as = outcome_replayed g.result _ _ _ _ _ _ _ _ _ _ coded g.ensures.replayed;
       replay_scratch_as = replay_spares g.result _ _ _ _ _ coded g.ensures.replay_scratch;
     }

@@ -6,7 +6,7 @@ use Rattle.lines.proofs.calls.plans.Goals as goal
 
 pub returns-in-Nothing : goal.returns-in-Nothing
 returns-in-Nothing c = record {
-  scratch_after = plan_none _ _ _ _ _ _ c.in-Nothing.is;
+  answer = plan_none _ _ _ _ _ _ c.in-Nothing.is;
   printable = tt;
 }
 
@@ -15,6 +15,6 @@ returns-in-Open c =
     let call = c.plan in
     let given = c.in-Open.is in
     let out = c.plan_output in record {
-      scratch_after = plan_on _ _ _ _ _ _ _ _ call.result call.ensures.terminals_after out.result out.ensures _ given;
-      printable = plan_prints _ _ _ _ _ _ _ _ call.result call.ensures.terminals_after out.result out.ensures (omega arith) (omega arith);
+      answer = plan_on _ _ _ _ _ _ _ _ call.result call.ensures.answer out.result out.ensures _ given;
+      printable = plan_prints _ _ _ _ _ _ _ _ call.result call.ensures.answer out.result out.ensures (omega arith) (omega arith);
     }

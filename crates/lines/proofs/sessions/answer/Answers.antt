@@ -7,6 +7,6 @@ use Rattle.lines.proofs.sessions.answer.Goals as goal
 
 pub returns : goal.returns
 returns c =
-    let both = response_act _ _ _ c.act-a.result _ _ _ _ _ _ _ _ _ (parsed_command _ _ c.parse-command.ensures) c.act-a.ensures.scratch_after c.put_output-put.ensures
+    let both = response_act _ _ _ c.act-a.result _ _ _ _ _ _ _ _ _ (parsed_command _ _ c.parse-command.ensures) c.act-a.ensures.answer c.put_output-put.ensures
     (omega (arith, c.requires, c.act-a.auto.locations)) in
-    record { scratch_after = both.0; says = both.1 }
+    record { world_after = both.0; says = both.1 }

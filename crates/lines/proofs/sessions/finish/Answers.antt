@@ -7,7 +7,7 @@ use Rattle.lines.proofs.sessions.finish.Goals as goal
 pub returns-then-held-eq0 : goal.returns-then-held-eq0
 returns-then-held-eq0 c = let a = c.args in
     record {
-      out_after = end_none _ a.line.now _ _ c.if-held-eq0.true;
+      answer = end_none _ a.line.now _ _ c.if-held-eq0.true;
       buffers_after = (refl, refl);
     }
 
@@ -15,6 +15,6 @@ pub returns : goal.returns
 returns c =
     let a = c.args in
     record {
-      out_after = c.feed.ensures.out_after ∙ end_held _ a.line.now _ _ c.if-held-eq0.false;
+      answer = c.feed.ensures.answer ∙ end_held _ a.line.now _ _ c.if-held-eq0.false;
       buffers_after = c.feed.ensures.buffers_after;
     }

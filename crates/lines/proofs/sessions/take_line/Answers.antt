@@ -15,7 +15,7 @@ returns-then-e-bytes c =
     let a = c.args in
     let same = ap (world _ _ _) c.end_line-r.auto.scratch in
     step_line a.bytes.now _ a.line.now a.out.now a.s.held a.at _ (omega (arith, c.requires)) c.place_of-e.ensures _ _ _ _
-    c.if-e-bytes.true (same ∙ c.end_line-r.ensures.scratch_after, c.end_line-r.ensures.says)
+    c.if-e-bytes.true (same ∙ c.end_line-r.ensures.world_after, c.end_line-r.ensures.says)
 
 pub returns : goal.returns
 returns c =

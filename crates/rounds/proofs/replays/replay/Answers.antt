@@ -34,25 +34,25 @@ returns-then-not-all_known c =
     let both = clauses (goal.at.returns-then-not-all_known c).Start (outcome.Refused 12) _ _ _ _ _ _
     (replay_unknown _ _ _ _ _ _ _ _ _ _ (sym c.all_known.ensures ∙ c.if-not-all_known.true))
     refl in
-    record { terminals_after = both.0; replayed = both.1.0; replay_scratch = both.1.1 }
+    record { answer = both.0; replayed = both.1.0; replay_scratch = both.1.1 }
 
 pub returns-then-answers-calls : goal.returns-then-answers-calls
 returns-then-answers-calls c =
     let both = clauses (goal.at.returns-then-answers-calls c).Start (outcome.Refused _) _ _ _ _ _ _
     (replay_short _ _ _ _ _ _ _ _ _ _ (all (goal.at.returns-then-answers-calls c).Else-not-all_known) c.if-answers-calls.true _ c.short_refusal-number.ensures)
     refl in
-    record { terminals_after = both.0; replayed = both.1.0; replay_scratch = both.1.1 }
+    record { answer = both.0; replayed = both.1.0; replay_scratch = both.1.1 }
 
 pub returns-in-Refused : goal.returns-in-Refused
 returns-in-Refused c =
     let both = clauses (goal.at.returns-in-Refused c).Start (outcome.Refused _) _ _ _ _ _ _
     (replay_refused _ _ _ _ _ _ _ _ _ _ (all (goal.at.returns-in-Refused c).Else-not-all_known) c.if-answers-calls.false c.«open».result _ c.«open».ensures _ c.in-Refused.is)
     refl in
-    record { terminals_after = both.0; replayed = both.1.0; replay_scratch = both.1.1 }
+    record { answer = both.0; replayed = both.1.0; replay_scratch = both.1.1 }
 
 pub returns-in-Made : goal.returns-in-Made
 returns-in-Made c =
     let both = clauses (goal.at.returns-in-Made c).Start outcome.Done _ _ _ _ _ c.run.new.scratch
-    (replay_run _ _ _ _ _ _ _ _ _ _ (all (goal.at.returns-in-Made c).Else-not-all_known) c.if-answers-calls.false c.«open».result _ c.«open».ensures _ _ _ _ _ _ c.in-Made.is c.run.ensures.terminals_after)
+    (replay_run _ _ _ _ _ _ _ _ _ _ (all (goal.at.returns-in-Made c).Else-not-all_known) c.if-answers-calls.false c.«open».result _ c.«open».ensures _ _ _ _ _ _ c.in-Made.is c.run.ensures.answer)
     c.run.ensures.scratch_run in
-    record { terminals_after = both.0; replayed = both.1.0; replay_scratch = both.1.1 }
+    record { answer = both.0; replayed = both.1.0; replay_scratch = both.1.1 }

@@ -16,8 +16,8 @@ put-requires c =
 pub returns : goal.returns
 returns c =
     let a = c.args in record {
-      terminals_after = run_is (state a.r a.list.now a.table.now) a.calls.now c.run_calls-s.result _ _ _ _ _ _ _ c.plan-o.result c.of_outcome.result _ _ _
-          c.run_calls-s.ensures.table_after c.run_calls-s.ensures.answers_after c.plan-o.ensures.terminals_after c.of_outcome.ensures c.put.ensures;
+      answer = run_is (state a.r a.list.now a.table.now) a.calls.now c.run_calls-s.result _ _ _ _ _ _ _ c.plan-o.result c.of_outcome.result _ _ _
+          c.run_calls-s.ensures.state_after c.run_calls-s.ensures.answers_after c.plan-o.ensures.answer c.of_outcome.ensures c.put.ensures;
       scratch_run = run_scratch (length a.calls.now) c.plan-o.result c.of_outcome.result _ _ _ _
           (omega (arith, c.requires, c.run_calls-s.auto.answers)) c.of_outcome.ensures c.put.ensures c.plan-o.ensures.scratch_after;
     }

@@ -34,6 +34,6 @@ returns c =
     let l = c.loop-i in
     let done = c.loop-i-test.false in
     record {
-      table_after = after_end _ l.i done _ l.invariant.4;
+      state_after = after_end _ l.i done _ l.invariant.4;
       answers_after = placed_end _ l.i done _ _ l.invariant.5 ∙ placed_written _ _ _;
     }

@@ -19,28 +19,28 @@ enough c = omega (arith, c.scratch_places.ensures)
 
 pub returns-then-locations-k : goal.returns-then-locations-k
 returns-then-locations-k c = record {
-  terminals_after = few_locations _ _ _ _ _ _ _ (ready (goal.at.returns-then-locations-k c).In-Is) c.if-locations-k.true;
+  answer = few_locations _ _ _ _ _ _ _ (ready (goal.at.returns-then-locations-k c).In-Is) c.if-locations-k.true;
   scratch_after = refl;
 }
 
 pub returns-then-terminals-k : goal.returns-then-terminals-k
 returns-then-terminals-k c =
     record {
-      terminals_after = few_terminals _ _ _ _ _ _ _ (ready (goal.at.returns-then-terminals-k c).In-Is) c.if-locations-k.false c.if-terminals-k.true;
+      answer = few_terminals _ _ _ _ _ _ _ (ready (goal.at.returns-then-terminals-k c).In-Is) c.if-locations-k.false c.if-terminals-k.true;
       scratch_after = refl;
     }
 
 pub returns-then-scratch-scratch_places : goal.returns-then-scratch-scratch_places
 returns-then-scratch-scratch_places c =
     record {
-      terminals_after = few_places _ _ _ _ _ _ _ (ready (goal.at.returns-then-scratch-scratch_places c).In-Is) c.if-locations-k.false c.if-terminals-k.false (omega (arith, c.scratch_places.ensures));
+      answer = few_places _ _ _ _ _ _ _ (ready (goal.at.returns-then-scratch-scratch_places c).In-Is) c.if-locations-k.false c.if-terminals-k.false (omega (arith, c.scratch_places.ensures));
       scratch_after = refl;
     }
 
 pub returns-then-idle : goal.returns-then-idle
 returns-then-idle c =
     record {
-      terminals_after = plan_none _ _ _ _ _ _ _ (ready (goal.at.returns-then-idle c).In-Is) c.if-locations-k.false c.if-terminals-k.false (enough (goal.at.returns-then-idle c).Else-scratch-scratch_places) c.if-idle.true;
+      answer = plan_none _ _ _ _ _ _ _ (ready (goal.at.returns-then-idle c).In-Is) c.if-locations-k.false c.if-terminals-k.false (enough (goal.at.returns-then-idle c).Else-scratch-scratch_places) c.if-idle.true;
       scratch_after = refl;
     }
 
@@ -52,13 +52,13 @@ deal-requires c =
 pub returns-in-Refused : goal.returns-in-Refused
 returns-in-Refused c =
     record {
-      terminals_after = plan_unfit _ _ _ _ _ _ _ (is_unfit c.args.r _ _ _ c.is_idle.ensures _ c.in-Refused.is);
+      answer = plan_unfit _ _ _ _ _ _ _ (is_unfit c.args.r _ _ _ c.is_idle.ensures _ c.in-Refused.is);
       scratch_after = refl;
     }
 
 pub returns-else-idle : goal.returns-else-idle
 returns-else-idle c =
     record {
-      terminals_after = plan_done _ _ _ _ _ _ _ (ready (goal.at.returns-else-idle c).In-Is) c.if-locations-k.false c.if-terminals-k.false (enough (goal.at.returns-else-idle c).Else-scratch-scratch_places) c.if-idle.false _ _ (c.deal.ensures.locations_after, c.deal.ensures.terminals_after);
+      answer = plan_done _ _ _ _ _ _ _ (ready (goal.at.returns-else-idle c).In-Is) c.if-locations-k.false c.if-terminals-k.false (enough (goal.at.returns-else-idle c).Else-scratch-scratch_places) c.if-idle.false _ _ (c.deal.ensures.locations_after, c.deal.ensures.terminals_after);
       scratch_after = c.deal.auto.scratch;
     }

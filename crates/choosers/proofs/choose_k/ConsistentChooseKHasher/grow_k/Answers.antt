@@ -19,20 +19,20 @@ unfolding grow_call
 returns-then-not-fits c =
     let a = c.args in
     let both = grow_both a.self a.list.now _ (ap (λ p. placed p a.list.now) c.refuse.ensures ∙ tested_unfit a.self a.list.now _ (sym c.fits.ensures ∙ c.if-not-fits.true)) in
-    record { list_after = both.0; consistent = both.1 }
+    record { answer = both.0; consistent = both.1 }
 
 pub returns-then-n-gt-N_LIMIT : goal.returns-then-n-gt-N_LIMIT
 unfolding grow_call
 returns-then-n-gt-N_LIMIT c =
     let a = c.args in
     let both = grow_both a.self a.list.now _ (ap (λ p. placed p a.list.now) c.refuse-then-n-gt-N_LIMIT.ensures ∙ tested_above a.self a.list.now _ (ok (goal.at.returns-then-n-gt-N_LIMIT c).Else-not-fits) c.if-n-gt-N_LIMIT.true) in
-    record { list_after = both.0; consistent = both.1 }
+    record { answer = both.0; consistent = both.1 }
 
 pub returns-then-k-n : goal.returns-then-k-n
 returns-then-k-n c =
     let a = c.args in
     let both = grow_both a.self a.list.now _ (ap (λ p. placed p a.list.now) c.refuse-then-k-n.ensures ∙ grow_full a.self a.list.now (ok (goal.at.returns-then-k-n c).Else-not-fits) (search rules) (search rules)) in
-    record { list_after = both.0; consistent = both.1 }
+    record { answer = both.0; consistent = both.1 }
 
 pub overflow_add-k : goal.overflow_add-k
 overflow_add-k c = record { fits = omega (arith, (fits_parts _ _ (ok (goal.at.overflow_add-k c).Else-not-fits)).few) }
@@ -41,7 +41,7 @@ pub returns-then-list-k : goal.returns-then-list-k
 returns-then-list-k c =
     let a = c.args in
     let both = grow_both a.self a.list.now _ (ap (λ p. placed p a.list.now) c.refuse-then-list-k.ensures ∙ grow_short a.self a.list.now (ok (goal.at.returns-then-list-k c).Else-not-fits) (search rules) (search rules) (search rules)) in
-    record { list_after = both.0; consistent = both.1 }
+    record { answer = both.0; consistent = both.1 }
 
 pub grow-i-requires : goal.grow-i-requires
 grow-i-requires c =
@@ -53,4 +53,4 @@ pub returns : goal.returns
 returns c =
     let a = c.args in
     let both = grow_both a.self a.list.now _ (grow_done a.self a.list.now (ok (goal.at.returns c).Else-not-fits) (search rules) (search rules) (search rules) _ _ c.grow-i.ensures) in
-    record { list_after = both.0; consistent = both.1 }
+    record { answer = both.0; consistent = both.1 }

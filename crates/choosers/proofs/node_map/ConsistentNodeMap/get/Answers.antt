@@ -20,13 +20,13 @@ enough c = omega (arith, c.places.ensures)
 
 pub returns-then-not-fits : goal.returns-then-not-fits
 returns-then-not-fits c = record {
-  result_value = sym (get_unfit _ _ _ _ (sym c.fits.ensures ∙ c.if-not-fits.true));
+  answer = sym (get_unfit _ _ _ _ (sym c.fits.ensures ∙ c.if-not-fits.true));
   scratch_after = refl;
 }
 
 pub returns-then-scratch-places : goal.returns-then-scratch-places
 returns-then-scratch-places c = record {
-  result_value = sym (get_short _ _ _ _ (ok (goal.at.returns-then-scratch-places c).Else-not-fits) (omega (arith, c.places.ensures)));
+  answer = sym (get_short _ _ _ _ (ok (goal.at.returns-then-scratch-places c).Else-not-fits) (omega (arith, c.places.ensures)));
   scratch_after = refl;
 }
 
@@ -36,14 +36,14 @@ any-requires c = (fits_parts _ _ (ok (goal.at.any-requires c).Else-not-fits)).co
 pub returns-then-not-any : goal.returns-then-not-any
 returns-then-not-any c =
     record {
-      result_value = sym (get_none _ _ _ _ (ok (goal.at.returns-then-not-any c).Else-not-fits) (enough (goal.at.returns-then-not-any c).Else-scratch-places) (sym (c.if-not-any.true) ∙ c.any.ensures));
+      answer = sym (get_none _ _ _ _ (ok (goal.at.returns-then-not-any c).Else-not-fits) (enough (goal.at.returns-then-not-any c).Else-scratch-places) (sym (c.if-not-any.true) ∙ c.any.ensures));
       scratch_after = refl;
     }
 
 pub returns-in-Found : goal.returns-in-Found
 returns-in-Found c =
     record {
-      result_value = sym (get_found _ _ _ _ (ok (goal.at.returns-in-Found c).Else-not-fits) (enough (goal.at.returns-in-Found c).Else-scratch-places) c.in-Found.x (sym c.first_active.ensures ∙ ap told_looked c.in-Found.is));
+      answer = sym (get_found _ _ _ _ (ok (goal.at.returns-in-Found c).Else-not-fits) (enough (goal.at.returns-in-Found c).Else-scratch-places) c.in-Found.x (sym c.first_active.ensures ∙ ap told_looked c.in-Found.is));
       scratch_after = c.first_active.auto.scratch;
     }
 
