@@ -15,28 +15,28 @@ pub struct ConsistentChooseKHasher {
 }
 
 // A chooser, or a refusal with its number.
-#[derive(Drop)]
+#[derive(Clone, Copy)]
 pub enum Chosen {
     Made(ConsistentChooseKHasher),
     Refused(u32),
 }
 
 // The index of the number that came in, or a refusal with its number.
-#[derive(Drop)]
+#[derive(Clone, Copy)]
 pub enum Place {
     Index(u64),
     Refused(u32),
 }
 
 // The chooser after a growth or a shrinking, and what that said.
-#[derive(Drop)]
+#[derive(Clone, Copy)]
 pub struct Placed {
     pub chooser: ConsistentChooseKHasher,
     pub place: Place,
 }
 
 // The number that came in, that all n are there, or a refusal with its number.
-#[derive(Drop)]
+#[derive(Clone, Copy)]
 pub enum Draw {
     Sample(u64),
     Nothing,
@@ -44,7 +44,7 @@ pub enum Draw {
 }
 
 // The chooser after a step of the choice order, and what that said.
-#[derive(Drop)]
+#[derive(Clone, Copy)]
 pub struct Drawn {
     pub chooser: ConsistentChooseKHasher,
     pub draw: Draw,

@@ -13,49 +13,49 @@ pub struct ConsistentNodeMap {
 }
 
 // A slot, or a refusal with its number.
-#[derive(Drop)]
+#[derive(Clone, Copy)]
 pub enum Slot {
     Number(u32),
     Refused(u32),
 }
 
 // The map after an add, and the slot.
-#[derive(Drop)]
+#[derive(Clone, Copy)]
 pub struct Added {
     pub map: ConsistentNodeMap,
     pub slot: Slot,
 }
 
 // What a call says that has no number to give.
-#[derive(Drop)]
+#[derive(Clone, Copy)]
 pub enum Outcome {
     Done,
     Refused(u32),
 }
 
 // The map after a remove, and whether that was refused.
-#[derive(Drop)]
+#[derive(Clone, Copy)]
 pub struct Removed {
     pub map: ConsistentNodeMap,
     pub outcome: Outcome,
 }
 
 // How many, or a refusal with its number.
-#[derive(Drop)]
+#[derive(Clone, Copy)]
 pub enum Count {
     Number(u32),
     Refused(u32),
 }
 
 // Whether it is so, or a refusal with its number.
-#[derive(Drop)]
+#[derive(Clone, Copy)]
 pub enum Truth {
     Is(bool),
     Refused(u32),
 }
 
 // The slot that a lookup without tests found, or that it found none.
-#[derive(Drop)]
+#[derive(Clone, Copy)]
 pub enum Looked {
     Found(u32),
     Missing,

@@ -1,23 +1,18 @@
 -- What the calls on orders leave, in the terms of their code.
 -- Assumes nothing.
-use mathlib.Core.Path.{◌≡◌, refl, sym, ap, ◌∙◌, subst}
+use mathlib.Core.Path.{◌≡◌}
 use mathlib.Core.List.{List}
 use Prim.Native.Nat.{ℕ, ◌+◌, ◌%◌, ◌^◌, ◌≤◌, ◌<◌}
 use borrow.Author.Tests.{lt-ltb, le-ltb}
 use lib.ListN.{length, take}
 use Rattle.lists.specs.Lists.{written}
 use Rattle.orders.specs.declared.Outcome.TheVariants as outcome
-use Rattle.orders.specs.declared.consistent_permutation.ConsistentPermutation.{ConsistentPermutation}
-use Rattle.orders.specs.declared.consistent_permutation.Given.TheVariants as goal
 use Rattle.orders.specs.declared.consistent_permutation.Started.{Started}
-use Rattle.orders.specs.declared.consistent_permutation.Stepped.{Stepped}
-use Rattle.orders.specs.Orders.{none_counted, P}
-use Rattle.orders.specs.OrderCalls.{order_of, Start, started, new_call, stepped, next_call}
-use Rattle.orders.proofs.OrderWalks.{Going, rest_of, going_new, rest_new}
+use Rattle.orders.specs.Orders.{P}
+use Rattle.orders.specs.OrderCalls.{started, new_call}
 use Rattle.exports.specs.Coded.{coded_number, fed_all, digest}
 use Rattle.exports.specs.Crossings.{crossed_one, short_of}
-use Rattle.exports.specs.Orders.{order_words, order_as, new_order_crossed, next_order_crossed, order_digest}
-use Rattle.exports.specs.InnerDigests.{fed_with}
+use Rattle.exports.specs.Orders.{order_words, new_order_crossed, next_order_crossed, order_digest}
 
 -- ---- new
 

@@ -1,6 +1,6 @@
 -- What many calls of `next` on the words of an order come to.
 -- Assumes nothing.
-use mathlib.Core.Path.{◌≡◌, refl, sym, ap, ◌∙◌}
+use mathlib.Core.Path.{◌≡◌, refl, ap, ◌∙◌}
 use mathlib.Core.List.{List}
 use mathlib.Core.Option.{Option, none}
 use Prim.Native.Nat.{ℕ, zero, suc, ◌+◌, ◌-◌, ◌*◌, ◌/◌, ◌%◌, ◌^◌, ◌≤◌, ◌<◌}
@@ -24,7 +24,7 @@ use Rattle.exports.specs.Coded.{fed_all}
 use Rattle.exports.specs.InnerDigests.{fed_with}
 use Rattle.exports.specs.InnerRuns.{run_of, run_on, RunCrossed, ran_as, run_crossed}
 use Rattle.exports.specs.Crossings.{crossed_one}
-use Rattle.exports.specs.Orders.{order_words, order_as, stepped_as, next_order_crossed}
+use Rattle.exports.specs.Orders.{order_words, order_as, next_order_crossed}
 
 -- ---- the loop
 

@@ -12,7 +12,7 @@ ghost use Rattle.hashes.specs.Calls.{told, prev_call, next_call};
 ghost use Rattle.hashes.specs.Walks.{told_falling, falling_from, falling_step, fall, told_rising, rising_from, rising_step, rise};
 
 // What a call that looks for a hash answers: the hash, that there is none, or a refusal with its number.
-#[derive(Drop)]
+#[derive(Clone, Copy)]
 pub enum Found {
     Hash(u64),
     Nothing,
@@ -27,7 +27,7 @@ pub fn seq_builder(state: u64, i: u64) -> u64
 }
 
 // The hashes of one state.
-#[derive(Drop)]
+#[derive(Clone, Copy)]
 pub struct ConsistentHasher {
     pub state: u64,
 }
@@ -93,21 +93,21 @@ fn low_of(n: u64) -> u64
 }
 
 // The falling walk: every hash below n, one a call, the largest first. Afterwards n is the hash that was given.
-#[derive(Drop)]
+#[derive(Clone, Copy)]
 pub struct ConsistentHashRevIterator {
     pub state: u64,
     pub n: u64,
 }
 
 // A falling walk, or a refusal with its number.
-#[derive(Drop)]
+#[derive(Clone, Copy)]
 pub enum Falling {
     Made(ConsistentHashRevIterator),
     Refused(u32),
 }
 
 // A step of the falling walk: the walk after it, and what it found.
-#[derive(Drop)]
+#[derive(Clone, Copy)]
 pub struct FallingStep {
     pub walk: ConsistentHashRevIterator,
     pub found: Found,
@@ -155,21 +155,21 @@ impl ConsistentHashRevIterator {
 
 // The rising walk: every hash of `low` or more, one a call, the smallest first. Afterwards `low` is one above the hash that
 // was given.
-#[derive(Drop)]
+#[derive(Clone, Copy)]
 pub struct ConsistentHashIterator {
     pub state: u64,
     pub low: u64,
 }
 
 // A rising walk, or a refusal with its number.
-#[derive(Drop)]
+#[derive(Clone, Copy)]
 pub enum Rising {
     Made(ConsistentHashIterator),
     Refused(u32),
 }
 
 // A step of the rising walk: the walk after it, and what it found.
-#[derive(Drop)]
+#[derive(Clone, Copy)]
 pub struct RisingStep {
     pub walk: ConsistentHashIterator,
     pub found: Found,

@@ -11,7 +11,7 @@ ghost use Rattle.layers.specs.KeyedLayers.{told_keyed, keyed_layer, keyed, appli
 use feistel::Halves;
 
 // What a layer answers: the output, or a refusal with its number.
-#[derive(Drop)]
+#[derive(Clone, Copy)]
 pub enum Applied {
     Output(u32),
     Refused(u32),
@@ -36,7 +36,7 @@ pub struct KeyedLayer {
 }
 
 // A keyed layer, or a refusal with its number.
-#[derive(Drop)]
+#[derive(Clone, Copy)]
 pub enum Keyed {
     Made(KeyedLayer),
     Refused(u32),

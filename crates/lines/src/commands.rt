@@ -5,7 +5,7 @@ ghost use Rattle.lines.specs.Commands.{digit_of, value_of, below32, number_of, k
 ghost use Rattle.lines.specs.InnerLines.{place_of, wide_of, small_of};
 
 // What a line asks for, or a refusal with its number.
-#[derive(Drop)]
+#[derive(Clone, Copy)]
 pub enum Command {
     Open { key: u64, k: u32, n: u32 },
     Admit,
@@ -16,14 +16,14 @@ pub enum Command {
 }
 
 // A number of 64 bits that was read, or none.
-#[derive(Drop)]
+#[derive(Clone, Copy)]
 pub enum Wide {
     Number(u64),
     None,
 }
 
 // The same, of 32 bits.
-#[derive(Drop)]
+#[derive(Clone, Copy)]
 pub enum Small {
     Number(u32),
     None,

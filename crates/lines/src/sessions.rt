@@ -15,20 +15,20 @@ pub enum Current {
 }
 
 // Where a session stands between two pieces: its round, and how many bytes are held of a line that has not ended.
-#[derive(Drop)]
+#[derive(Clone, Copy)]
 pub struct Session {
     pub current: Current,
     pub held: usize,
 }
 
 // How many bytes of a piece were taken, and how many were put out; or a refusal with its number.
-#[derive(Drop)]
+#[derive(Clone, Copy)]
 pub enum Feeding {
     Fed { taken: usize, put: usize },
     Refused(u32),
 }
 
-#[derive(Drop)]
+#[derive(Clone, Copy)]
 pub struct Fed {
     pub session: Session,
     pub feeding: Feeding,
@@ -56,7 +56,7 @@ fn keep(line: &mut [u8], held: usize, bytes: &[u8]) -> usize
 }
 
 // The round after a line, and the place after what was put out for it.
-#[derive(Drop)]
+#[derive(Clone, Copy)]
 pub struct Replied {
     pub current: Current,
     pub put: usize,
@@ -128,7 +128,7 @@ fn end_line(
 }
 
 // The session after some bytes were taken, how many, and the place after what was put out.
-#[derive(Drop)]
+#[derive(Clone, Copy)]
 pub struct Taken {
     pub session: Session,
     pub taken: usize,

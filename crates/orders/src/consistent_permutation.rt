@@ -10,7 +10,7 @@ ghost use Rattle.orders.specs.InnerCounters.{lower_step};
 use crate::{Outcome, counters, scans};
 
 // An order and how far it was walked: a counter for each layer, the next input of that layer.
-#[derive(Drop)]
+#[derive(Clone, Copy)]
 pub struct ConsistentPermutation {
     pub master_key: u64,
     pub n: u32,
@@ -18,7 +18,7 @@ pub struct ConsistentPermutation {
 }
 
 // What `next` gives: a number, that there is none, or a refusal with its number.
-#[derive(Drop)]
+#[derive(Clone, Copy)]
 pub enum Given {
     Number(u32),
     Nothing,
@@ -26,14 +26,14 @@ pub enum Given {
 }
 
 // An order, and whether it was refused. An enum cannot hold the counters, so the empty order stands beside a refusal.
-#[derive(Drop)]
+#[derive(Clone, Copy)]
 pub struct Started {
     pub order: ConsistentPermutation,
     pub outcome: Outcome,
 }
 
 // The order after a call of `next`, and what that gave.
-#[derive(Drop)]
+#[derive(Clone, Copy)]
 pub struct Stepped {
     pub order: ConsistentPermutation,
     pub given: Given,

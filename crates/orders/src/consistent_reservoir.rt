@@ -20,14 +20,14 @@ pub struct ConsistentReservoir {
 }
 
 // A reservoir, or a refusal with its number.
-#[derive(Drop)]
+#[derive(Clone, Copy)]
 pub enum Opened {
     Made(ConsistentReservoir),
     Refused(u32),
 }
 
 // What an admit says: the location that came in and the one that went out, that none is due, or a refusal with its number.
-#[derive(Drop)]
+#[derive(Clone, Copy)]
 pub enum Exchange {
     InOut(u32, u32),
     Nothing,
@@ -35,14 +35,14 @@ pub enum Exchange {
 }
 
 // The reservoir after an admit, and what that said.
-#[derive(Drop)]
+#[derive(Clone, Copy)]
 pub struct Admitted {
     pub reservoir: ConsistentReservoir,
     pub exchange: Exchange,
 }
 
 // The reservoir after the growth of a layer, and whether it was refused.
-#[derive(Drop)]
+#[derive(Clone, Copy)]
 pub struct LayerGrown {
     pub reservoir: ConsistentReservoir,
     pub outcome: Outcome,

@@ -10,7 +10,7 @@ mod scans;
 mod steps;
 
 // What a call says that has no number to give.
-#[derive(Drop)]
+#[derive(Clone, Copy)]
 pub enum Outcome {
     Done,
     Refused(u32),

@@ -24,28 +24,28 @@ pub struct Round {
 }
 
 // A round, or a refusal with its number.
-#[derive(Drop)]
+#[derive(Clone, Copy)]
 pub enum Opened {
     Made(Round),
     Refused(u32),
 }
 
 // The round after an admit, and what that said.
-#[derive(Drop)]
+#[derive(Clone, Copy)]
 pub struct Admission {
     pub round: Round,
     pub exchange: Exchange,
 }
 
 // The round after a join, and the terminal's slot.
-#[derive(Drop)]
+#[derive(Clone, Copy)]
 pub struct Joining {
     pub round: Round,
     pub slot: Slot,
 }
 
 // The round after a withdraw, and whether that was refused.
-#[derive(Drop)]
+#[derive(Clone, Copy)]
 pub struct Withdrawal {
     pub round: Round,
     pub outcome: Outcome,

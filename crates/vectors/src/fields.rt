@@ -9,7 +9,7 @@ use crate::{
 
 // The line as far as it was read: its letter (0 before it came), the place of the number that is being read, the numbers.
 // Place 0 is the letter's own.
-#[derive(Drop)]
+#[derive(Clone, Copy)]
 pub struct Fields {
     pub letter: u8,
     pub at: usize,

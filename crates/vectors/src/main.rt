@@ -1,5 +1,8 @@
 // Replays the stored answers of the original through the proved library, and says how many agree.
 #![tactic(auto)]
+
+ghost use Rattle.std.specs.Prelude.{length, ◌≡◌};
+
 mod calls;
 mod chooser_calls;
 mod choosings;
@@ -15,7 +18,9 @@ mod slot_lookups;
 mod tally;
 
 use fields::Fields;
-use libc::STDOUT_FILENO;
+use std::io::Read;
+use std::rt::Files;
+use std::{fs, io};
 use tally::Tally;
 
 // A file that is being replayed: the line as far as it was read, what was found, and whether more may come.
@@ -63,22 +68,29 @@ fn fed_all(from: Replay, piece: &[u8]) -> Replay {
     r
 }
 
+// Room for a piece of a file. Made in a function of its own, so that a proof has the length only and not the list.
+fn piece_buffer() -> [u8; 65536]
+    ensures { 65536 ≡ length result }
+{
+    [0; 65536]
+}
+
 // Reads once. At the end of the file nothing comes.
-fn fed_some(from: Replay, fd: i32) -> Replay {
-    let mut buffer = io::large_buffer();
-    let n = io::read_full(fd, &mut buffer);
+fn fed_some<F: Read>(from: Replay, file: &mut F) -> io::Result<Replay> {
+    let mut buffer = piece_buffer();
+    let n = file.read(&mut buffer)?;
     let r = fed_all(from, &buffer[..n]);
     let fields = r.fields;
     let tally = r.tally;
-    Replay {
+    Ok(Replay {
         fields,
         tally,
         open: 0 < n,
-    }
+    })
 }
 
 // Nothing says that a file ends, so the loop counts its turns down from a number that no run uses up.
-fn replayed(fd: i32) -> Tally {
+fn replayed<F: Read>(file: &mut F) -> io::Result<Tally> {
     let mut r = Replay {
         fields: Fields::new(),
         tally: Tally::new(),
@@ -86,48 +98,43 @@ fn replayed(fd: i32) -> Tally {
     };
     let mut turns = u64::MAX;
     while turns > 0 && r.open {
-        r = fed_some(r, fd);
+        r = fed_some(r, file)?;
         turns -= 1;
     }
-    r.tally
+    Ok(r.tally)
 }
 
-fn report(t: Tally) {
-    io::print_decimal(STDOUT_FILENO, t.compared);
-    io::write_all(STDOUT_FILENO, b" answers compared, ");
+fn report(rt: &impl Print, t: Tally) -> io::Result<()> {
+    print!(rt; "{} answers compared, ", t.compared)?;
     let differ = t.differ;
     if differ == 0 {
-        io::write_all(STDOUT_FILENO, b"all agree\n");
-        return;
+        return println!(rt; "all agree");
     }
-    io::print_decimal(STDOUT_FILENO, differ);
-    io::write_all(STDOUT_FILENO, b" differ, the first in line ");
-    io::print_decimal(STDOUT_FILENO, t.first);
-    io::write_all(STDOUT_FILENO, b"\n");
+    println!(rt; "{differ} differ, the first in line {}", t.first)
 }
 
-fn replay_file(path: &[u8], name: &[u8]) {
-    io::write_all(STDOUT_FILENO, name);
-    let fd = os::open_read(path);
-    if fd < 0 {
-        io::write_all(STDOUT_FILENO, b"cannot be read\n");
-        return;
+fn replay_file(rt: &(impl Files + Print), path: &str, name: &str) -> io::Result<()> {
+    print!(rt; "{name}")?;
+    match fs::open(rt, path) {
+        Ok(mut file) => match replayed(&mut file) {
+            Ok(t) => report(rt, t),
+            Err(_) => println!(rt; "cannot be read"),
+        },
+        Err(_) => println!(rt; "cannot be read"),
     }
-    report(replayed(fd));
-    libc::close(fd);
 }
 
-fn main() {
-    replay_file(b"mix.txt", b"mix: ");
-    replay_file(b"layers.txt", b"layers: ");
-    replay_file(b"hashes.txt", b"hashes: ");
-    replay_file(b"orders.txt", b"orders: ");
-    replay_file(b"reservoirs.txt", b"reservoirs: ");
-    replay_file(b"refusals.txt", b"refusals: ");
-    replay_file(b"handmade.txt", b"handmade: ");
-    replay_file(b"choosers.txt", b"choosers: ");
-    replay_file(b"slots.txt", b"slots: ");
-    replay_file(b"handmade_choosers.txt", b"handmade_choosers: ");
-    replay_file(b"handmade_slots.txt", b"handmade_slots: ");
-    replay_file(b"rounds.txt", b"rounds: ");
+fn main(rt: HostRuntime) -> io::Result<()> {
+    replay_file(&rt, "mix.txt", "mix: ")?;
+    replay_file(&rt, "layers.txt", "layers: ")?;
+    replay_file(&rt, "hashes.txt", "hashes: ")?;
+    replay_file(&rt, "orders.txt", "orders: ")?;
+    replay_file(&rt, "reservoirs.txt", "reservoirs: ")?;
+    replay_file(&rt, "refusals.txt", "refusals: ")?;
+    replay_file(&rt, "handmade.txt", "handmade: ")?;
+    replay_file(&rt, "choosers.txt", "choosers: ")?;
+    replay_file(&rt, "slots.txt", "slots: ")?;
+    replay_file(&rt, "handmade_choosers.txt", "handmade_choosers: ")?;
+    replay_file(&rt, "handmade_slots.txt", "handmade_slots: ")?;
+    replay_file(&rt, "rounds.txt", "rounds: ")
 }

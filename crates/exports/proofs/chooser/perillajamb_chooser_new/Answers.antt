@@ -1,0 +1,15 @@
+-- `exports::chooser::perillajamb_chooser_new` meets its contract.
+-- Assumes nothing.
+use borrow.Author.Tests.{lt-ltb}
+use borrow.Author.Rules.{rules}
+use Rattle.exports.specs.Chooser.{new_crossed}
+use Rattle.exports.proofs.ChooserCrossLaws.{new_crosses}
+use Rattle.exports.proofs.chooser.perillajamb_chooser_new.Goals as goal
+
+pub returns-then-words-lt3 : goal.returns-then-words-lt3
+unfolding new_crossed
+returns-then-words-lt3 c = rw (c.refused.ensures, c.short_of-short.ensures, lt-ltb _ 3 c.if-words-lt3.true)
+
+pub returns : goal.returns
+returns c =
+    new_crosses _ (search rules) _ _ _ _ c.new-made.result c.new-made.ensures c.store_made.ensures

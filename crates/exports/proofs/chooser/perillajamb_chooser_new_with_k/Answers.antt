@@ -1,0 +1,15 @@
+-- `exports::chooser::perillajamb_chooser_new_with_k` meets its contract.
+-- Assumes nothing.
+use borrow.Author.Tests.{lt-ltb}
+use borrow.Author.Rules.{rules}
+use Rattle.exports.specs.Chooser.{new_with_kCrossed}
+use Rattle.exports.proofs.ChooserCrossLaws.{new_with_k_crosses}
+use Rattle.exports.proofs.chooser.perillajamb_chooser_new_with_k.Goals as goal
+
+pub returns-then-words-lt3 : goal.returns-then-words-lt3
+unfolding new_with_kCrossed
+returns-then-words-lt3 c = rw (c.refused.ensures, c.short_of-short.ensures, lt-ltb _ 3 c.if-words-lt3.true)
+
+pub returns : goal.returns
+returns c =
+    new_with_k_crosses _ (search rules) _ _ _ _ _ _ _ c.new_with_k-made.result c.new_with_k-made.ensures c.store_made.ensures

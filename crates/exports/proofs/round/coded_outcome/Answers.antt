@@ -1,0 +1,10 @@
+-- `exports::round::coded_outcome` meets its contract.
+-- Assumes nothing.
+use mathlib.Core.Path.{ap, sym, ◌∙◌}
+use Rattle.choosers.specs.declared.node_map.Outcome.{Outcome}
+use Rattle.choosers.specs.SlotCalls.{told_outcome}
+use Rattle.exports.specs.Coded.{coded_done}
+use Rattle.exports.proofs.round.coded_outcome.Goals as goal
+
+pub returns-in-Refused : goal.returns-in-Refused
+returns-in-Refused c = c.refused.ensures ∙ sym (ap (λ (o : Outcome). coded_done (told_outcome o)) c.in-Refused.is)

@@ -1,0 +1,14 @@
+-- `exports::round::perillajamb_round_replay` meets its contract.
+-- Assumes nothing.
+use Rattle.exports.proofs.RoundCrossLaws.{replay_crosses, outcome_replayed, replay_spares}
+use Rattle.exports.proofs.round.perillajamb_round_replay.Goals as goal
+
+pub returns : goal.returns
+returns c =
+    let g = c.replay-o in
+    let coded = c.coded_outcome.ensures in
+    record {
+      terminals_after = replay_crosses _ _ _ _ _ _ _ _ _ _ _ _ _ _ _ _ g.result coded g.ensures.terminals_after;
+      replayed_as = outcome_replayed g.result _ _ _ _ _ _ _ _ _ _ coded g.ensures.replayed;
+      replay_scratch_as = replay_spares g.result _ _ _ _ _ coded g.ensures.replay_scratch;
+    }
