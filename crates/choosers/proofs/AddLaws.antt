@@ -22,7 +22,7 @@ use Rattle.choosers.specs.declared.node_map.ConsistentNodeMap.{ConsistentNodeMap
 use Rattle.choosers.specs.Slots.{active, deleted, actives, vacant, slot_among}
 use Rattle.choosers.specs.SlotCalls.{map_of, slot_limit, fitting, After, after, refused, add_call}
 use Rattle.choosers.proofs.TableLaws.{active_yes, active_no, active_over, active_byte, active_same, deleted_byte, by_vacant}
-use Rattle.choosers.proofs.SlotCallLaws.{Parts, set_small, fits_parts, fits_of, add_unfit, add-vacant, add-full, add-limit, add-new}
+use Rattle.choosers.proofs.SlotCallLaws.{Parts, set_small, fits_parts, fits_of, add_unfit, add_vacant, add_full, add_limit, add_new}
 use Rattle.choosers.proofs.SlotLaws.{has_actives, slot_same, slot_put}
 use Rattle.choosers.proofs.ActiveLaws.{Out, out_actives, out_length}
 
@@ -51,22 +51,22 @@ module _ (m : ConsistentNodeMap) (t : List ℕ) where
 
   module _ (ok : fitting m t ≡ true) where
     -- It says that slot where there is room for it, and is refused else.
-    pub add-room : vacant t m.total < min (length t) slot_limit → (add_call m t).told ≡ says (vacant t m.total)
-    add-room r =
+    pub add_room : vacant t m.total < min (length t) slot_limit → (add_call m t).told ≡ says (vacant t m.total)
+    add_room r =
         by_below (vacant t m.total) m.total
-        (λ h. ap (λ (a : After ℕ). a.told) (add-vacant m t ok (vacant t m.total) refl h))
+        (λ h. ap (λ (a : After ℕ). a.told) (add_vacant m t ok (vacant t m.total) refl h))
         (λ l. by_vacant t m.total
         (λ h z. absurd (omega arith))
-        (λ v. ap (λ (a : After ℕ). a.told) (add-new m t ok (vacant t m.total) refl l (λ e. omega arith) (λ e. omega arith)) ∙ ap says (sym v)))
+        (λ v. ap (λ (a : After ℕ). a.told) (add_new m t ok (vacant t m.total) refl l (λ e. omega arith) (λ e. omega arith)) ∙ ap says (sym v)))
 
-    pub add-no-room : min (length t) slot_limit ≤ vacant t m.total → add_call m t ≡ refused 9 m t
-    add-no-room r =
+    pub add_no_room : min (length t) slot_limit ≤ vacant t m.total → add_call m t ≡ refused 9 m t
+    add_no_room r =
         let p = fits_parts m t ok in
         by_vacant t m.total
         (λ h z. absurd (omega (arith, p.count_le, p.count_low)))
         (λ v. by_same m.total (length t)
-        (λ e. add-full m t ok (vacant t m.total) refl (omega arith) e)
-        (λ d. add-limit m t ok (vacant t m.total) refl (omega arith) d (omega (arith, p.count_le, p.count_low))))
+        (λ e. add_full m t ok (vacant t m.total) refl (omega arith) e)
+        (λ d. add_limit m t ok (vacant t m.total) refl (omega arith) d (omega (arith, p.count_le, p.count_low))))
 
   -- ---- what it leaves
 
@@ -81,13 +81,13 @@ module _ (m : ConsistentNodeMap) (t : List ℕ) where
       by_test (fitting m t)
       (λ ok. let p = fits_parts m t ok in
       by_vacant t m.total
-      (λ h z. subst P (sym (add-vacant m t ok (vacant t m.total) refl h)) (low (vacant t m.total) p refl h z))
+      (λ h z. subst P (sym (add_vacant m t ok (vacant t m.total) refl h)) (low (vacant t m.total) p refl h z))
       (λ v. let l : m.total ≤ vacant t m.total = omega arith in
       by_same m.total (length t)
-      (λ e. subst P (sym (add-full m t ok (vacant t m.total) refl l e)) (full ok))
+      (λ e. subst P (sym (add_full m t ok (vacant t m.total) refl l e)) (full ok))
       (λ d. by_same m.total slot_limit
-      (λ e. subst P (sym (add-limit m t ok (vacant t m.total) refl l d e)) (full ok))
-      (λ n. subst P (sym (add-new m t ok (vacant t m.total) refl l d n)) (new p (sym v) (omega (arith, p.count_le)) (omega (arith, p.count_low)))))))
+      (λ e. subst P (sym (add_limit m t ok (vacant t m.total) refl l d e)) (full ok))
+      (λ n. subst P (sym (add_new m t ok (vacant t m.total) refl l d n)) (new p (sym v) (omega (arith, p.count_le)) (omega (arith, p.count_low)))))))
       (λ no. subst P (sym (add_unfit m t no)) (unfit no))
 
   record Adds (x : ℕ) (a : After ℕ) : Type 0 where

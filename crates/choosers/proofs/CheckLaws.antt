@@ -72,14 +72,14 @@ module _ (c : ConsistentChooseKHasher) (l : List ℕ) where
 
   module _ (p : Parts c l) where
     -- the sample at an index, below n and no less than the index
-    pub sample-below : (i : ℕ) → i < c.k → get_or l i 0 < c.n
-    sample-below i h = rw (get_or-take c.k l i 0 h) at (p.rising.below i (omega (arith, length-take-le c.k l p.within)))
+    pub sample_below : (i : ℕ) → i < c.k → get_or l i 0 < c.n
+    sample_below i h = rw (get_or-take c.k l i 0 h) at (p.rising.below i (omega (arith, length-take-le c.k l p.within)))
 
-    pub sample-ge : (i : ℕ) → i < c.k → i ≤ get_or l i 0
-    sample-ge i h = rw (get_or-take c.k l i 0 h) at (rises_ge (samples_of c l) c.n p.rising i (omega (arith, length-take-le c.k l p.within)))
+    pub sample_ge : (i : ℕ) → i < c.k → i ≤ get_or l i 0
+    sample_ge i h = rw (get_or-take c.k l i 0 h) at (rises_ge (samples_of c l) c.n p.rising i (omega (arith, length-take-le c.k l p.within)))
 
-    pub samples-within : c.n ≤ 2 ^ 62 → Within l c.k
-    samples-within h i q = omega (arith, sample-below i q)
+    pub samples_within : c.n ≤ 2 ^ 62 → Within l c.k
+    samples_within h i q = omega (arith, sample_below i q)
 
 -- ---- samples that ascend pass the test
 

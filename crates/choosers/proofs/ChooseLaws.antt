@@ -66,24 +66,24 @@ module _ (s : ℕ) where
   choosing_at k n before now high i h c = let e : i ≡ suc (i - 1) = omega arith in subst (λ (j : ℕ). Choosing k n before now high j) e c
 
   module _ (k n : ℕ) (before now : List ℕ) (high j : ℕ) (c : Choosing k n before now high (suc j)) where
-    pub high-ge : j ≤ high
-    high-ge = rw c.largest (top_ge s j c.bound)
+    pub high_ge : j ≤ high
+    high_ge = rw c.largest (top_ge s j c.bound)
 
     pub high_lt : high < n
     high_lt = omega (arith, c.largest, c.few, c.small, top_lt s (suc j) c.bound c.few (omega (arith, c.few)))
 
-    pub high-own : OwnOr s now j high
-    high-own i p =
+    pub high_own : OwnOr s now j high
+    high_own i p =
         by_same (get_or now i 0) high
         (λ q. inl q)
         (λ q. let e : get_or now i 0 ≡ g s i c.bound = c.owns i (omega arith) in
         let l : g s i c.bound ≤ high = rw c.largest (g_top s (suc j) c.bound i (omega arith)) in
-        inr (e ∙ sym (g_same s i high c.bound (omega (arith, high-ge)) (omega (arith, c.largest, c.few, top_lt s (suc j) c.bound c.few (omega (arith, c.few)))) (omega (arith, q)))))
+        inr (e ∙ sym (g_same s i high c.bound (omega (arith, high_ge)) (omega (arith, c.largest, c.few, top_lt s (suc j) c.bound c.few (omega (arith, c.few)))) (omega (arith, q)))))
 
     -- the places below j hold the own values below `high`, place j holds it
     module _ (next : List ℕ) (r : ℕ) (long : j < length next) (e : r ≡ largest_g s j high) (o : Owns s next j high) (q : SameFrom j now next) where
-      drop-next : drop j (set next j high) ≡ high ∷ drop (suc j) now
-      drop-next =
+      drop_next : drop j (set next j high) ≡ high ∷ drop (suc j) now
+      drop_next =
           drop-cons (set next j high) j 0 (rw (length-set next j high) long)
           ∙ rw (get_or-set_same next j high 0 long, drop-set-lt (suc j) next j high (omega arith))
           (ap (λ (z : List ℕ). high ∷ z) (one_more next ∙ ap (drop 1) q ∙ sym (one_more now)))
@@ -91,14 +91,14 @@ module _ (s : ℕ) where
           one_more : (l : List ℕ) → drop (suc j) l ≡ drop 1 (drop j l)
           one_more l = ap (λ (i : ℕ). drop i l) (sym (add-one j)) ∙ sym (drop-drop 1 j l)
 
-      pub choosing-next : Choosing k n before (set next j high) r j
-      choosing-next = record {
+      pub choosing_next : Choosing k n before (set next j high) r j
+      choosing_next = record {
         bound = high;
-        few = high-ge;
+        few = high_ge;
         small = omega (arith, high_lt);
         largest = e;
         owns = λ i p. rw (get_or-set_other next j i high 0 (λ z. omega (arith, z))) (o i p);
         whole =
             c.whole
-            ∙ rw (S_open s j c.bound, ← c.largest, append_snoc (S s j high) high (drop (suc j) now), drop-next);
+            ∙ rw (S_open s j c.bound, ← c.largest, append_snoc (S s j high) high (drop (suc j) now), drop_next);
       }

@@ -56,9 +56,9 @@ module _ (c : ConsistentChooseKHasher) (l : List ℕ) where
   tested_above a e h = rw (e, lt-ltb (2 ^ 62) c.n h)
 
   module _ (ok : fitting c l ≡ true) (small : c.n ≤ 2 ^ 62) where
-    pub tested-good : {A : Type 0} (a : After A) → tested c l a ≡ a
+    pub tested_good : {A : Type 0} (a : After A) → tested c l a ≡ a
     unfolding tested
-    tested-good a = rw (ok, le-ltb (2 ^ 62) c.n small)
+    tested_good a = rw (ok, le-ltb (2 ^ 62) c.n small)
 
     parts : Parts c l
     parts = fits_parts c l ok
@@ -68,30 +68,30 @@ module _ (c : ConsistentChooseKHasher) (l : List ℕ) where
 
     -- ---- grow and next
 
-    pub grow-full : c.k ≡ c.n → refused 6 c l ≡ grow_call c l
+    pub grow_full : c.k ≡ c.n → refused 6 c l ≡ grow_call c l
     unfolding grow_call
-    grow-full e = rw (tested-good _, eq-eqb c.k c.n e)
+    grow_full e = rw (tested_good _, eq-eqb c.k c.n e)
 
-    pub next-full : c.k ≡ c.n → after (says none) c l ≡ next_call c l
+    pub next_full : c.k ≡ c.n → after (says none) c l ≡ next_call c l
     unfolding next_call
-    next-full e = rw (tested-good _, eq-eqb c.k c.n e)
+    next_full e = rw (tested_good _, eq-eqb c.k c.n e)
 
     module _ (more : c.k ≢ c.n) where
       pub grow_short : length l < c.k + 1 → refused 4 c l ≡ grow_call c l
       unfolding grow_call grown_by
-      grow_short h = rw (tested-good _, ne_eqb c.k c.n more, lt-ltb (length l) (c.k + 1) h)
+      grow_short h = rw (tested_good _, ne_eqb c.k c.n more, lt-ltb (length l) (c.k + 1) h)
 
       pub next_short : length l < c.k + 1 → refused 4 c l ≡ next_call c l
       unfolding next_call grown_by
-      next_short h = rw (tested-good _, ne_eqb c.k c.n more, lt-ltb (length l) (c.k + 1) h)
+      next_short h = rw (tested_good _, ne_eqb c.k c.n more, lt-ltb (length l) (c.k + 1) h)
 
       module _ (room : c.k + 1 ≤ length l) (now : List ℕ) (i : ℕ) (e : moved now i ≡ grow_in c.state c.k l c.n) where
         abbrev step : Moved
         step = grow c.state (samples_of c l) c.n
 
-        now-is : now ≡ written step.samples l
+        now_is : now ≡ written step.samples l
         unfolding grow_in written
-        now-is =
+        now_is =
             ap (λ (m : Moved). m.samples) e
             ∙ ap (λ (u : ℕ). step.samples ++ drop u l) (sym (grow_length c.state (samples_of c l) c.n ∙ ap suc long))
 
@@ -99,72 +99,72 @@ module _ (c : ConsistentChooseKHasher) (l : List ℕ) where
         unfolding grow_in
         index_is = ap (λ (m : Moved). m.index) e
 
-        pub index-within : i ≤ c.k
-        index-within = omega (arith, index_is, grow_index c.state (samples_of c l) c.n, long)
+        pub index_within : i ≤ c.k
+        index_within = omega (arith, index_is, grow_index c.state (samples_of c l) c.n, long)
 
         pub grow_done : after (says i) (chooser_of c.state c.n (c.k + 1)) now ≡ grow_call c l
         unfolding grow_call grown_by
-        grow_done = rw (tested-good _, ne_eqb c.k c.n more, le-ltb (length l) (c.k + 1) room, now-is, index_is)
+        grow_done = rw (tested_good _, ne_eqb c.k c.n more, le-ltb (length l) (c.k + 1) room, now_is, index_is)
 
-        pub next-done : after (says (some (get_or now i 0))) (chooser_of c.state c.n (c.k + 1)) now ≡ next_call c l
+        pub next_done : after (says (some (get_or now i 0))) (chooser_of c.state c.n (c.k + 1)) now ≡ next_call c l
         unfolding next_call grown_by
-        next-done =
+        next_done =
             let x : get_or now i 0 ≡ get_or step.samples step.index 0
-            = ap (λ (u : List ℕ). get_or u i 0) now-is ∙ ap (λ (j : ℕ). get_or (written step.samples l) j 0) index_is
+            = ap (λ (u : List ℕ). get_or u i 0) now_is ∙ ap (λ (j : ℕ). get_or (written step.samples l) j 0) index_is
             ∙ written_at step.index step.samples l (omega (arith, grow_length c.state (samples_of c l) c.n, grow_index c.state (samples_of c l) c.n)) in
-            rw (tested-good _, ne_eqb c.k c.n more, le-ltb (length l) (c.k + 1) room, x, now-is)
+            rw (tested_good _, ne_eqb c.k c.n more, le-ltb (length l) (c.k + 1) room, x, now_is)
 
     -- the list keeps its length
-    pub grown-length : c.k + 1 ≤ length l → length (grow_in c.state c.k l c.n).samples ≡ length l
+    pub grown_length : c.k + 1 ≤ length l → length (grow_in c.state c.k l c.n).samples ≡ length l
     unfolding grow_in
-    grown-length room =
+    grown_length room =
         length-append (grow c.state (samples_of c l) c.n).samples (drop (suc c.k) l)
         ∙ rw length-drop (omega (arith, grow_length c.state (samples_of c l) c.n, long))
 
     -- ---- shrink
 
-    pub shrink-none : c.k ≡ 0 → refused 5 c l ≡ shrink_call c l
+    pub shrink_none : c.k ≡ 0 → refused 5 c l ≡ shrink_call c l
     unfolding shrink_call
-    shrink-none e = rw (tested-good _, eq-eqb c.k 0 e)
+    shrink_none e = rw (tested_good _, eq-eqb c.k 0 e)
 
     module _ (some : c.k ≢ 0) where
-      pub shrink-all : c.n ≤ c.k → refused 5 c l ≡ shrink_call c l
+      pub shrink_all : c.n ≤ c.k → refused 5 c l ≡ shrink_call c l
       unfolding shrink_call
-      shrink-all h = rw (tested-good _, ne_eqb c.k 0 some, le-leb c.n c.k h)
+      shrink_all h = rw (tested_good _, ne_eqb c.k 0 some, le-leb c.n c.k h)
 
-      last-is : last (samples_of c l) ≡ get_or l (c.k - 1) 0
-      last-is = last_take c.k l (omega (arith, some)) parts.within
+      last_is : last (samples_of c l) ≡ get_or l (c.k - 1) 0
+      last_is = last_take c.k l (omega (arith, some)) parts.within
 
       module _ (wide : c.k < c.n) where
-        pub shrink-low : get_or l (c.k - 1) 0 < c.k → refused 5 c l ≡ shrink_call c l
+        pub shrink_low : get_or l (c.k - 1) 0 < c.k → refused 5 c l ≡ shrink_call c l
         unfolding shrink_call
-        shrink-low h =
+        shrink_low h =
             rw (
-              tested-good _,
+              tested_good _,
               ne_eqb c.k 0 some,
               lt-leb c.n c.k wide,
-              counts_yes (samples_of c l) c.n parts.rising (omega (arith, last-is, long)),
+              counts_yes (samples_of c l) c.n parts.rising (omega (arith, last_is, long)),
             )
 
-        pub shrink-done : (now : List ℕ) (i : ℕ) → c.k ≤ get_or l (c.k - 1) 0 → moved now i ≡ lower_at c.state c.k l (get_or l (c.k - 1) 0)
+        pub shrink_done : (now : List ℕ) (i : ℕ) → c.k ≤ get_or l (c.k - 1) 0 → moved now i ≡ lower_at c.state c.k l (get_or l (c.k - 1) 0)
             → after (says i) (chooser_of c.state (get_or l (c.k - 1) 0) c.k) now ≡ shrink_call c l
         unfolding shrink_call shrink written
-        shrink-done now i h e =
+        shrink_done now i h e =
             let m : Moved = lower c.state (samples_of c l) (last (samples_of c l)) in
             let e' : moved now i ≡ moved (m.samples ++ drop c.k l) m.index
-            = e ∙ ap (lower_at c.state c.k l) (sym last-is) ∙ lower_take c.state c.k l (last (samples_of c l)) parts.within in
-            let now-is : now ≡ m.samples ++ drop (length m.samples) l
-            = ap (λ (u : Moved). u.samples) e' ∙ ap (λ (u : ℕ). m.samples ++ drop u l) (sym (shrink-long ∙ long)) in
+            = e ∙ ap (lower_at c.state c.k l) (sym last_is) ∙ lower_take c.state c.k l (last (samples_of c l)) parts.within in
+            let now_is : now ≡ m.samples ++ drop (length m.samples) l
+            = ap (λ (u : Moved). u.samples) e' ∙ ap (λ (u : ℕ). m.samples ++ drop u l) (sym (shrink_long ∙ long)) in
             let index_is : i ≡ m.index = ap (λ (u : Moved). u.index) e' in
             rw (
-              tested-good _,
+              tested_good _,
               ne_eqb c.k 0 some,
               lt-leb c.n c.k wide,
-              counts_no (samples_of c l) (omega (arith, long, some)) (omega (arith, last-is, long)),
-              now-is,
+              counts_no (samples_of c l) (omega (arith, long, some)) (omega (arith, last_is, long)),
+              now_is,
               index_is,
-              ← last-is,
+              ← last_is,
             )
           where
-            shrink-long : length (lower c.state (samples_of c l) (last (samples_of c l))).samples ≡ length (samples_of c l)
-            shrink-long = shrink_length c.state (samples_of c l)
+            shrink_long : length (lower c.state (samples_of c l) (last (samples_of c l))).samples ≡ length (samples_of c l)
+            shrink_long = shrink_length c.state (samples_of c l)

@@ -24,7 +24,7 @@ use Rattle.choosers.specs.ChooserWalks.{Walk, next_step, walk_from}
 use Rattle.choosers.proofs.SampleLaws.{S_ascending}
 use Rattle.choosers.proofs.OrderLaws.{length_Q}
 use Rattle.choosers.proofs.CheckLaws.{fits_of}
-use Rattle.choosers.proofs.ChooserCallLaws.{next-full, next-done, grown-length}
+use Rattle.choosers.proofs.ChooserCallLaws.{next_full, next_done, grown_length}
 use Rattle.choosers.proofs.ConsistentLaws.{next_consistent}
 
 -- samples that are S(k, n) are never refused 12
@@ -51,9 +51,9 @@ module _ (s n : ℕ) (small : n ≤ 2 ^ 62) where
     ok : fitting (chooser_of s n k) l ≡ true
     ok = chooses_fits (chooser_of s n k) l few (omega arith) q
 
-    turn-full : k ≡ n → Turn next_step (rest s n) (Under s n) (record { chooser = chooser_of s n k; list = l })
-    turn-full e =
-        let stop : after (says none) (chooser_of s n k) l ≡ next_call (chooser_of s n k) l = next-full (chooser_of s n k) l ok small e in
+    turn_full : k ≡ n → Turn next_step (rest s n) (Under s n) (record { chooser = chooser_of s n k; list = l })
+    turn_full e =
+        let stop : after (says none) (chooser_of s n k) l ≡ next_call (chooser_of s n k) l = next_full (chooser_of s n k) l ok small e in
         let nothing : drop k (Q s n) ≡ [] = drop_of_length-le (Q s n) {i = k} (omega (arith, length_Q s n)) in
         ended
         (ap (λ (a : After (Option ℕ)). a.told) (sym stop))
@@ -67,7 +67,7 @@ module _ (s n : ℕ) (small : n ≤ 2 ^ 62) where
         let i : ℕ = (grow_in s k l n).index in
         let x : ℕ = get_or now i 0 in
         let go : after (says (some x)) (chooser_of s n (k + 1)) now ≡ next_call (chooser_of s n k) l
-        = next-done (chooser_of s n k) l ok small d (omega (arith, d)) now i refl in
+        = next_done (chooser_of s n k) l ok small d (omega (arith, d)) now i refl in
         let c = next_consistent (chooser_of s n k) l in
         let chosen : Chooses (chooser_of s n (k + 1)) now
         = subst (λ (a : After (Option ℕ)). Chooses a.chooser a.list) (sym go) (c.chooses q) in
@@ -80,7 +80,7 @@ module _ (s n : ℕ) (small : n ≤ 2 ^ 62) where
         gave x
         (ap (λ (a : After (Option ℕ)). a.told) (sym go))
         (subst (λ (a : After (Option ℕ)). Under s n (record { chooser = a.chooser; list = a.list })) go
-        (record { few = omega (arith, d); long = omega (arith, grown-length (chooser_of s n k) l ok small (omega (arith, d))); is = refl; chooses = chosen }))
+        (record { few = omega (arith, d); long = omega (arith, grown_length (chooser_of s n k) l ok small (omega (arith, d))); is = refl; chooses = chosen }))
         (drop-cons (Q s n) k 0 (omega (arith, d, length_Q s n))
         ∙ ap (λ (y : ℕ). y ∷ drop (suc k) (Q s n)) (sym is-next)
         ∙ ap (λ (m : ℕ). x ∷ drop m (Q s n)) (sym (add-one k))
@@ -90,7 +90,7 @@ module _ (s n : ℕ) (small : n ≤ 2 ^ 62) where
   turn w u =
       subst (λ (c : ConsistentChooseKHasher). Turn next_step (rest s n) (Under s n) (record { chooser = c; list = w.list })) (sym u.is)
       (by_same w.chooser.k n
-      (λ e. turn-full w.chooser.k w.list u.few u.long u.chooses e)
+      (λ e. turn_full w.chooser.k w.list u.few u.long u.chooses e)
       (λ d. turn_more w.chooser.k w.list u.few u.long u.chooses d))
 
   nothing_yet : (l : List ℕ) → Chooses (chooser_of s n 0) l

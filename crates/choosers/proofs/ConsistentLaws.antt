@@ -69,25 +69,25 @@ module _ (c : ConsistentChooseKHasher) (l : List ℕ) where
     grown : grow c.state (samples_of c l) c.n ≡ moved (S c.state (suc c.k) c.n) (place c.state c.k c.n)
     grown = ap (λ (xs : List ℕ). grow c.state xs c.n) h ∙ grow_gives c.state c.k c.n less
 
-    samples-are : (grow c.state (samples_of c l) c.n).samples ≡ S c.state (suc c.k) c.n
-    samples-are = ap (λ (m : Moved). m.samples) grown
+    samples_are : (grow c.state (samples_of c l) c.n).samples ≡ S c.state (suc c.k) c.n
+    samples_are = ap (λ (m : Moved). m.samples) grown
 
     taken : take (c.k + 1) (written (grow c.state (samples_of c l) c.n).samples l) ≡ S c.state (c.k + 1) c.n
     taken =
-        rw (add-one, samples-are)
+        rw (add-one, samples_are)
         (written_take (suc c.k) (S c.state (suc c.k) c.n) l (length_S c.state (suc c.k) c.n))
 
-    came-in : lacked (S c.state (c.k + 1) c.n) (samples_of c l) ≡ new c.state c.k c.n
-    came-in = rw (add-one, h) (new_lacked c.state c.k c.n less)
+    came_in : lacked (S c.state (c.k + 1) c.n) (samples_of c l) ≡ new c.state c.k c.n
+    came_in = rw (add-one, h) (new_lacked c.state c.k c.n less)
 
-    at-index : get_or (grow c.state (samples_of c l) c.n).samples (grow c.state (samples_of c l) c.n).index 0 ≡ new c.state c.k c.n
-    at-index = rw grown (place_new c.state c.k c.n less)
+    at_index : get_or (grow c.state (samples_of c l) c.n).samples (grow c.state (samples_of c l) c.n).index 0 ≡ new c.state c.k c.n
+    at_index = rw grown (place_new c.state c.k c.n less)
 
     in_list : get_or (written (grow c.state (samples_of c l) c.n).samples l) (grow c.state (samples_of c l) c.n).index 0 ≡ new c.state c.k c.n
     in_list =
         written_at (grow c.state (samples_of c l) c.n).index (grow c.state (samples_of c l) c.n).samples l
         (rw grown (omega (arith, length_S c.state (suc c.k) c.n, place_le c.state c.k c.n)))
-        ∙ at-index
+        ∙ at_index
 
   grown_keeps : Parts c l → c.k ≢ c.n → (m : Moved) → m ≡ grow c.state (samples_of c l) c.n → Consistent c l (grown_by c l m m.index)
   unfolding grown_by
@@ -98,7 +98,7 @@ module _ (c : ConsistentChooseKHasher) (l : List ℕ) where
         chooses = λ h. rw e (taken p more h);
         index = λ h i q.
             let z : m.index ≡ i = cc in
-            rw (← z, e, taken p more h) (in_list p more h ∙ sym (came-in p more h));
+            rw (← z, e, taken p more h) (in_list p more h ∙ sym (came_in p more h));
       })
 
   grown_keeps_next : Parts c l → c.k ≢ c.n → (m : Moved) → m ≡ grow c.state (samples_of c l) c.n → ConsistentNext c l (grown_by c l m (some (get_or m.samples m.index 0)))
@@ -110,7 +110,7 @@ module _ (c : ConsistentChooseKHasher) (l : List ℕ) where
         chooses = λ h. rw e (taken p more h);
         number = λ h x q.
             let z : get_or m.samples m.index 0 ≡ x = cc in
-            rw (← z, e, taken p more h) (at-index p more h ∙ sym (came-in p more h));
+            rw (← z, e, taken p more h) (at_index p more h ∙ sym (came_in p more h));
       })
 
   pub grow_consistent : Consistent c l (grow_call c l)
@@ -136,37 +136,37 @@ module _ (c : ConsistentChooseKHasher) (l : List ℕ) where
     b : ℕ
     b = largest_g c.state (suc j) c.n
 
-    samples-S : samples_of c l ≡ S c.state (suc j) c.n
-    samples-S = h ∙ ap (λ (k : ℕ). S c.state k c.n) size
+    samples_S : samples_of c l ≡ S c.state (suc j) c.n
+    samples_S = h ∙ ap (λ (k : ℕ). S c.state k c.n) size
 
-    last-is : last (samples_of c l) ≡ b
+    last_is : last (samples_of c l) ≡ b
     unfolding b
-    last-is = ap last samples-S ∙ last_S c.state j c.n
+    last_is = ap last samples_S ∙ last_S c.state j c.n
 
     high : j < b
     unfolding b
     high =
         by_below j b
         (λ q. q)
-        (λ q. absurd (true≢false (sym (counts_yes (samples_of c l) c.n p.rising (omega (arith, last-is, length-take-le c.k l p.within, size))) ∙ not_first)))
+        (λ q. absurd (true≢false (sym (counts_yes (samples_of c l) c.n p.rising (omega (arith, last_is, length-take-le c.k l p.within, size))) ∙ not_first)))
 
     shrunk : shrink c.state (samples_of c l) ≡ moved (S c.state (suc j) b) (place c.state j b)
     unfolding b
-    shrunk = ap (shrink c.state) samples-S ∙ shrink_gives c.state j c.n high
+    shrunk = ap (shrink c.state) samples_S ∙ shrink_gives c.state j c.n high
 
-    shrunk-taken : take c.k (written (shrink c.state (samples_of c l)).samples l) ≡ S c.state (suc j) b
-    shrunk-taken = rw shrunk (written_take c.k (S c.state (suc j) b) l (length_S c.state (suc j) b ∙ sym size))
+    shrunk_taken : take c.k (written (shrink c.state (samples_of c l)).samples l) ≡ S c.state (suc j) b
+    shrunk_taken = rw shrunk (written_take c.k (S c.state (suc j) b) l (length_S c.state (suc j) b ∙ sym size))
 
-    shrunk-at : get_or (written (shrink c.state (samples_of c l)).samples l) (shrink c.state (samples_of c l)).index 0 ≡ new c.state j b
-    shrunk-at =
+    shrunk_at : get_or (written (shrink c.state (samples_of c l)).samples l) (shrink c.state (samples_of c l)).index 0 ≡ new c.state j b
+    shrunk_at =
         rw shrunk
         (written_at (place c.state j b) (S c.state (suc j) b) l (omega (arith, length_S c.state (suc j) b, place_le c.state j b))
         ∙ place_new c.state j b high)
 
-    shrunk-lacked : lacked (S c.state (suc j) b) (samples_of c l) ≡ new c.state j b
+    shrunk_lacked : lacked (S c.state (suc j) b) (samples_of c l) ≡ new c.state j b
     unfolding b
-    shrunk-lacked =
-        rw (samples-S, S_open c.state j c.n, S_insert c.state j b high)
+    shrunk_lacked =
+        rw (samples_S, S_open c.state j c.n, S_insert c.state j b high)
         (lacked_insert_at (S c.state j b) (S c.state j b ++ (b ∷ [])) (place c.state j b) (new c.state j b)
         (λ v q. omega (arith, occurrences_append v (S c.state j b) (b ∷ [])))
         (occurrences_append (new c.state j b) (S c.state j b) (b ∷ [])
@@ -176,10 +176,10 @@ module _ (c : ConsistentChooseKHasher) (l : List ℕ) where
       → Consistent c l (after (says m.index) (chooser_of c.state (last (samples_of c l)) c.k) (written m.samples l))
   shrunk_keeps p zero q d f m e = absurd (d refl)
   shrunk_keeps p (suc j) q d f m e = record {
-    chooses = λ h. rw e (shrunk-taken p j q f h ∙ ap (λ (k : ℕ). S c.state k (b p j q f h)) (sym q) ∙ ap (S c.state c.k) (sym (last-is p j q f h)));
+    chooses = λ h. rw e (shrunk_taken p j q f h ∙ ap (λ (k : ℕ). S c.state k (b p j q f h)) (sym q) ∙ ap (S c.state c.k) (sym (last_is p j q f h)));
     index = λ h i z.
         let w : m.index ≡ i = cc in
-        rw (← w, e, shrunk-taken p j q f h) (shrunk-at p j q f h ∙ sym (shrunk-lacked p j q f h));
+        rw (← w, e, shrunk_taken p j q f h) (shrunk_at p j q f h ∙ sym (shrunk_lacked p j q f h));
   }
 
   pub shrink_consistent : Consistent c l (shrink_call c l)

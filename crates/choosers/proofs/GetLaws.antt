@@ -37,33 +37,33 @@ module _ (m : ConsistentNodeMap) (t : List ℕ) (s places : ℕ) where
   get_unfit e = rw e
 
   module _ (ok : fitting m t ≡ true) where
-    pub get-short : places < min (length t) slot_limit → get_call m t s places ≡ refusal 4
+    pub get_short : places < min (length t) slot_limit → get_call m t s places ≡ refusal 4
     unfolding get_call
-    get-short h = rw (ok, lt-ltb places (min (length t) slot_limit) h)
+    get_short h = rw (ok, lt-ltb places (min (length t) slot_limit) h)
 
     module _ (enough : min (length t) slot_limit ≤ places) where
-      is-holder : get_call m t s places ≡ or_none (holder s t m.total)
+      is_holder : get_call m t s places ≡ or_none (holder s t m.total)
       unfolding get_call
-      is-holder = rw (ok, le-ltb places (min (length t) slot_limit) enough)
+      is_holder = rw (ok, le-ltb places (min (length t) slot_limit) enough)
 
       -- with scratch enough, all of Q(count) is looked at
-      pub look-all : look_up m.total t s places ≡ holder s t m.total
+      pub look_all : look_up m.total t s places ≡ holder s t m.total
       unfolding look_up holder
-      look-all =
+      look_all =
           let p = fits_parts m t ok in
           ap (find (active t m.total)) (take_all places (Q s m.total) (omega (arith, length_Q s m.total, p.count_le, p.count_low)))
 
       pub get_none : false ≡ not (eqb (length (actives t m.total)) 0) → get_call m t s places ≡ refusal 11
-      get_none e = is-holder ∙ ap or_none (holder_slot s t m.total ∙ among_none s (actives t m.total) e)
+      get_none e = is_holder ∙ ap or_none (holder_slot s t m.total ∙ among_none s (actives t m.total) e)
 
-      pub get-found : (x : ℕ) → look_up m.total t s places ≡ some x → get_call m t s places ≡ says x
-      get-found x e = is-holder ∙ ap or_none (sym look-all ∙ e)
+      pub get_found : (x : ℕ) → look_up m.total t s places ≡ some x → get_call m t s places ≡ says x
+      get_found x e = is_holder ∙ ap or_none (sym look_all ∙ e)
 
-      pub get-some : true ≡ not (eqb (length (actives t m.total)) 0) → look_up m.total t s places ≢ none
-      get-some e n = among_some s (actives t m.total) e (sym (holder_slot s t m.total) ∙ sym look-all ∙ n)
+      pub get_some : true ≡ not (eqb (length (actives t m.total)) 0) → look_up m.total t s places ≢ none
+      get_some e n = among_some s (actives t m.total) e (sym (holder_slot s t m.total) ∙ sym look_all ∙ n)
 
 -- ---- what get says, for whoever calls it with scratch enough
 
 -- It says the slot by definition among the active slots, or 11 where none is active.
 pub get_slot : (m : ConsistentNodeMap) (t : List ℕ) (s places : ℕ) → fitting m t ≡ true → min (length t) slot_limit ≤ places → get_call m t s places ≡ or_none (slot_among s (actives t m.total))
-get_slot m t s places ok enough = is-holder m t s places ok enough ∙ ap or_none (holder_slot s t m.total)
+get_slot m t s places ok enough = is_holder m t s places ok enough ∙ ap or_none (holder_slot s t m.total)

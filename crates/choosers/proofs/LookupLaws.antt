@@ -14,7 +14,7 @@ use Rattle.choosers.specs.Choosers.{g, S, moved, larger, lower_at}
 use Rattle.choosers.specs.InnerChoosers.{grow_in}
 use Rattle.choosers.specs.InnerLookups.{lows, Holds, Held, Rises, Under}
 use Rattle.choosers.proofs.SampleLaws.{g_lt, g_ge, g_same, length_S, S_ascending}
-use Rattle.choosers.proofs.TurnLaws.{turn_on, larger_first, larger_later, grow_first, grow-end, grow-mid}
+use Rattle.choosers.proofs.TurnLaws.{turn_on, larger_first, larger_later, grow_first, grow_end, grow_mid}
 
 -- ---- samples of places
 
@@ -49,32 +49,32 @@ module _ (s : ℕ) where
 
   module _ (l : List ℕ) (i m v b : ℕ) (pos : 0 < i) (le : i ≤ m) (own : v ≡ g s (i - 1) m)
       (first : i - 1 ≤ 0 → b ≡ v) (later : 0 < i - 1 → b ≡ max (get_or (lows l) (i - 1 - 1) 0) v) where
-    turn-larger : b ≡ larger s (lows l) (i - 1) m
-    turn-larger =
+    turn_larger : b ≡ larger s (lows l) (i - 1) m
+    turn_larger =
         by_below 0 (i - 1)
         (λ p. later p ∙ rw own (sym (larger_later s (i - 1) (lows l) m p)))
         (λ p. first p ∙ own ∙ sym (larger_first s (i - 1) (lows l) m p))
 
-    turn-ge : v ≤ b
-    turn-ge = by_below 0 (i - 1) (λ p. omega (arith, later p)) (λ p. omega (arith, first p))
+    turn_ge : v ≤ b
+    turn_ge = by_below 0 (i - 1) (λ p. omega (arith, later p)) (λ p. omega (arith, first p))
 
-    pub turn-less : Under l i m → (v < m) × (b < m)
-    turn-less u =
+    pub turn_less : Under l i m → (v < m) × (b < m)
+    turn_less u =
         let h : v < m = omega (arith, g_lt s (i - 1) m (omega arith)) in
         (h, by_below 0 (i - 1) (λ p. omega (arith, later p, u (i - 1 - 1) (omega arith))) (λ p. omega (arith, first p)))
 
     -- what stands after it: the place e is written
-    pub turn-leaves : (k e : ℕ) → i ≤ k → k ≤ length l → m < 2 ^ 32 → m ≤ get_or (lows l) (i - 1) 0 → e ≡ v * 2 ^ 32 + b
+    pub turn_leaves : (k e : ℕ) → i ≤ k → k ≤ length l → m < 2 ^ 32 → m ≤ get_or (lows l) (i - 1) 0 → e ≡ v * 2 ^ 32 + b
         → Held s l k → Rises l i → Under l i m
         → (i - 1 ≤ b) × (b < m) × (lower_at s i (lows l) m ≡ lower_at s (i - 1) (lows (set l (i - 1) e)) b)
         × Held s (set l (i - 1) e) k × Rises (set l (i - 1) e) (i - 1) × Under (set l (i - 1) e) (i - 1) b
-    turn-leaves k e below fits word stays is held rises under =
-        let less : b < m = (turn-less under).1 in
+    turn_leaves k e below fits word stays is held rises under =
+        let less : b < m = (turn_less under).1 in
         let low : e % 2 ^ 32 ≡ b = omega arith in (
-          omega (arith, turn-ge, g_ge s (i - 1) m),
+          omega (arith, turn_ge, g_ge s (i - 1) m),
           less,
-          turn_on s i (lows l) m pos stays ∙ rw (lows_set l (i - 1) e, low, ← turn-larger),
-          set_holds (Holds s) l k (i - 1) e (omega arith) (holds_new (i - 1) m v b e own turn-ge less (omega arith) is) (λ j p _. held j p),
+          turn_on s i (lows l) m pos stays ∙ rw (lows_set l (i - 1) e, low, ← turn_larger),
+          set_holds (Holds s) l k (i - 1) e (omega arith) (holds_new (i - 1) m v b e own turn_ge less (omega arith) is) (λ j p _. held j p),
           λ a c h p. rw (low_other l (i - 1) e a (λ q. omega (arith, q)), low_other l (i - 1) e c (λ q. omega (arith, q))) (rises a c h (omega arith)),
           λ a p. rw (low_other l (i - 1) e a (λ q. omega (arith, q))) (omega (arith, rises a (i - 1 - 1) (omega arith) (omega arith), later (omega arith))),
         )
@@ -100,28 +100,28 @@ module _ (s : ℕ) where
         let p = put v l (omega arith) (omega (arith, g_lt s k n less)) is refl held in
         (ap (λ (x : List ℕ). moved x k) p.0 ∙ rw own (grow_first s k n (lows l) long z), p.1)
 
-    pub put-end : k ≢ 0 → get_or (lows l) (k - 1) 0 < v → e ≡ v * 2 ^ 32 + v → Held s l k
+    pub put_end : k ≢ 0 → get_or (lows l) (k - 1) 0 < v → e ≡ v * 2 ^ 32 + v → Held s l k
         → (moved (lows (set l k e)) k ≡ grow_in s k (lows l) n) × Held s (set l k e) (k + 1)
-    put-end z h is held =
+    put_end z h is held =
         let p = put v l (omega arith) (omega (arith, g_lt s k n less)) is refl held in
-        (ap (λ (x : List ℕ). moved x k) p.0 ∙ rw own (grow-end s k n (lows l) long z (omega arith)), p.1)
+        (ap (λ (x : List ℕ). moved x k) p.0 ∙ rw own (grow_end s k n (lows l) long z (omega arith)), p.1)
 
     -- else beside the old last, once the samples are lowered
-    pub put-mid : k ≢ 0 → (b : ℕ) → get_or (lows l) (k - 1) 0 ≡ b → v ≤ b → b < n → e ≡ v * 2 ^ 32 + b
+    pub put_mid : k ≢ 0 → (b : ℕ) → get_or (lows l) (k - 1) 0 ≡ b → v ≤ b → b < n → e ≡ v * 2 ^ 32 + b
         → (now : List ℕ) (i : ℕ) → length now ≡ length l → moved (lows now) i ≡ lower_at s k (lows l) b → Held s now k
         → (moved (lows (set now k e)) i ≡ grow_in s k (lows l) n) × Held s (set now k e) (k + 1)
-    put-mid z b q h p is now i same low held =
+    put_mid z b q h p is now i same low held =
         let w = put b now h p is same held in
-        (ap (λ (x : List ℕ). moved x i) w.0 ∙ grow-mid s k n (lows l) long z b q (omega arith) (lows now) i low, w.1)
+        (ap (λ (x : List ℕ). moved x i) w.0 ∙ grow_mid s k n (lows l) long z b q (omega arith) (lows now) i low, w.1)
 
   -- ---- S(k, n) in the first places
 
   module _ (k n : ℕ) (l : List ℕ) (h : k ≤ n) (e : take k (lows l) ≡ S s k n) where
-    at-S : (a : ℕ) → a < k → get_or (S s k n) a 0 ≡ get_or (lows l) a 0
-    at-S a p = ap (λ (z : List ℕ). get_or z a 0) (sym e) ∙ get_or-take k (lows l) a 0 p
+    at_S : (a : ℕ) → a < k → get_or (S s k n) a 0 ≡ get_or (lows l) a 0
+    at_S a p = ap (λ (z : List ℕ). get_or z a 0) (sym e) ∙ get_or-take k (lows l) a 0 p
 
-    pub rises-S : Rises l k
-    rises-S a b p q = rw (← at-S a (omega arith), ← at-S b q) ((S_ascending s k n h).rises a b p (omega (arith, length_S s k n)))
+    pub rises_S : Rises l k
+    rises_S a b p q = rw (← at_S a (omega arith), ← at_S b q) ((S_ascending s k n h).rises a b p (omega (arith, length_S s k n)))
 
-    pub last-below : 0 < k → get_or (lows l) (k - 1) 0 < n
-    last-below p = rw (← at-S (k - 1) (omega arith)) ((S_ascending s k n h).below (k - 1) (omega (arith, length_S s k n)))
+    pub last_below : 0 < k → get_or (lows l) (k - 1) 0 < n
+    last_below p = rw (← at_S (k - 1) (omega arith)) ((S_ascending s k n h).below (k - 1) (omega (arith, length_S s k n)))

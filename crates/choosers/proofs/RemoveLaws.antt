@@ -19,7 +19,7 @@ use Rattle.choosers.specs.declared.node_map.ConsistentNodeMap.{ConsistentNodeMap
 use Rattle.choosers.specs.Slots.{active, actives, slot_among}
 use Rattle.choosers.specs.SlotCalls.{map_of, fitting, After, after, refused, remove_call}
 use Rattle.choosers.proofs.TableLaws.{active_no, active_over, active_same, active→}
-use Rattle.choosers.proofs.SlotCallLaws.{Parts, set_small, fits_parts, fits_of, remove-unfit, remove-none, remove-last, remove-other}
+use Rattle.choosers.proofs.SlotCallLaws.{Parts, set_small, fits_parts, fits_of, remove_unfit, remove_none, remove_last, remove_other}
 use Rattle.choosers.proofs.SlotLaws.{has_actives, slot_out}
 use Rattle.choosers.proofs.ActiveLaws.{Out, out_actives, out_length}
 
@@ -35,10 +35,10 @@ module _ (m : ConsistentNodeMap) (t : List ℕ) (x : ℕ) where
       by_test (fitting m t)
       (λ ok. by_test (active t m.total x)
       (λ y. by_same (x + 1) m.total
-      (λ e. subst P (sym (remove-last m t x ok y e)) (end (fits_parts m t ok) y e))
-      (λ d. subst P (sym (remove-other m t x ok y d)) (mid (fits_parts m t ok) y d)))
-      (λ n. subst P (sym (remove-none m t x ok n)) (off ok)))
-      (λ no. subst P (sym (remove-unfit m t x no)) (unfit no))
+      (λ e. subst P (sym (remove_last m t x ok y e)) (end (fits_parts m t ok) y e))
+      (λ d. subst P (sym (remove_other m t x ok y d)) (mid (fits_parts m t ok) y d)))
+      (λ n. subst P (sym (remove_none m t x ok n)) (off ok)))
+      (λ no. subst P (sym (remove_unfit m t x no)) (unfit no))
 
   end_out : x + 1 ≡ m.total → Out t m.total x t x
   end_out e = record {
@@ -78,8 +78,8 @@ module _ (m : ConsistentNodeMap) (t : List ℕ) (x : ℕ) where
   pub remove_active : fitting m t ≡ true → active t m.total x ≡ true → (remove_call m t x).told ≡ says tt
   remove_active ok y =
       by_same (x + 1) m.total
-      (λ e. ap (λ (a : After (Unit {0})). a.told) (remove-last m t x ok y e))
-      (λ d. ap (λ (a : After (Unit {0})). a.told) (remove-other m t x ok y d))
+      (λ e. ap (λ (a : After (Unit {0})). a.told) (remove_last m t x ok y e))
+      (λ d. ap (λ (a : After (Unit {0})). a.told) (remove_other m t x ok y d))
 
   -- Of an accepted remove of x: x was active,
   pub remove_was : (remove_call m t x).told ≡ says tt → has x (actives t m.total) ≡ true

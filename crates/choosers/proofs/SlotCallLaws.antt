@@ -84,41 +84,41 @@ module _ (m : ConsistentNodeMap) (t : List ℕ) where
 
   -- x: the lowest deleted slot, else the count
   module _ (ok : fitting m t ≡ true) (x : ℕ) (is : x ≡ vacant t m.total) where
-    pub add-vacant : x < m.total → add_call m t ≡ after (says x) m (set t x 1)
+    pub add_vacant : x < m.total → add_call m t ≡ after (says x) m (set t x 1)
     unfolding add_call
-    add-vacant h = rw (ok, ← is, lt-ltb x m.total h)
+    add_vacant h = rw (ok, ← is, lt-ltb x m.total h)
 
-    pub add-full : m.total ≤ x → m.total ≡ length t → add_call m t ≡ refused 9 m t
+    pub add_full : m.total ≤ x → m.total ≡ length t → add_call m t ≡ refused 9 m t
     unfolding add_call
-    add-full h e = rw (ok, ← is, le-ltb x m.total h, eq-eqb m.total (length t) e)
+    add_full h e = rw (ok, ← is, le-ltb x m.total h, eq-eqb m.total (length t) e)
 
-    pub add-limit : m.total ≤ x → m.total ≢ length t → m.total ≡ slot_limit → add_call m t ≡ refused 9 m t
+    pub add_limit : m.total ≤ x → m.total ≢ length t → m.total ≡ slot_limit → add_call m t ≡ refused 9 m t
     unfolding add_call
-    add-limit h d e = rw (ok, ← is, le-ltb x m.total h, ne_eqb m.total (length t) d, eq-eqb m.total slot_limit e)
+    add_limit h d e = rw (ok, ← is, le-ltb x m.total h, ne_eqb m.total (length t) d, eq-eqb m.total slot_limit e)
 
-    pub add-new : m.total ≤ x → m.total ≢ length t → m.total ≢ slot_limit → add_call m t ≡ after (says m.total) (map_of (m.total + 1)) (set t m.total 1)
+    pub add_new : m.total ≤ x → m.total ≢ length t → m.total ≢ slot_limit → add_call m t ≡ after (says m.total) (map_of (m.total + 1)) (set t m.total 1)
     unfolding add_call
-    add-new h d e = rw (ok, ← is, le-ltb x m.total h, ne_eqb m.total (length t) d, ne_eqb m.total slot_limit e)
+    add_new h d e = rw (ok, ← is, le-ltb x m.total h, ne_eqb m.total (length t) d, ne_eqb m.total slot_limit e)
 
   -- ---- remove
 
   module _ (x : ℕ) where
-    pub remove-unfit : fitting m t ≡ false → remove_call m t x ≡ refused 12 m t
+    pub remove_unfit : fitting m t ≡ false → remove_call m t x ≡ refused 12 m t
     unfolding remove_call
-    remove-unfit e = rw e
+    remove_unfit e = rw e
 
     module _ (ok : fitting m t ≡ true) where
-      pub remove-none : active t m.total x ≡ false → remove_call m t x ≡ refused 10 m t
+      pub remove_none : active t m.total x ≡ false → remove_call m t x ≡ refused 10 m t
       unfolding remove_call
-      remove-none e = rw (ok, e)
+      remove_none e = rw (ok, e)
 
-      pub remove-last : active t m.total x ≡ true → x + 1 ≡ m.total → remove_call m t x ≡ after (says tt) (map_of x) t
+      pub remove_last : active t m.total x ≡ true → x + 1 ≡ m.total → remove_call m t x ≡ after (says tt) (map_of x) t
       unfolding remove_call
-      remove-last y e = rw (ok, y, eq-eqb (x + 1) m.total e)
+      remove_last y e = rw (ok, y, eq-eqb (x + 1) m.total e)
 
-      pub remove-other : active t m.total x ≡ true → x + 1 ≢ m.total → remove_call m t x ≡ after (says tt) m (set t x 0)
+      pub remove_other : active t m.total x ≡ true → x + 1 ≢ m.total → remove_call m t x ≡ after (says tt) m (set t x 0)
       unfolding remove_call
-      remove-other y d = rw (ok, y, ne_eqb (x + 1) m.total d)
+      remove_other y d = rw (ok, y, ne_eqb (x + 1) m.total d)
 
   -- ---- the queries
 

@@ -93,9 +93,9 @@ module _ (s : ℕ) where
     long : length (take k l) ≡ k
     long = length-take-le k l (omega arith)
 
-    lowered-length : (b : ℕ) → length (lower s (take k l) b).samples ≡ k
+    lowered_length : (b : ℕ) → length (lower s (take k l) b).samples ≡ k
     unfolding lower
-    lowered-length b = lower_length (length (take k l)) (take k l) b ∙ long
+    lowered_length b = lower_length (length (take k l)) (take k l) b ∙ long
 
     -- the new sample goes to the end
     pub grow_first : k ≡ 0 → moved (set l k (g s k n)) k ≡ grow_in s k l n
@@ -104,24 +104,24 @@ module _ (s : ℕ) where
         rw (long, eq-eqb k 0 e, append_assoc (take k l) (g s k n ∷ []) (drop (suc k) l))
         (ap (λ (z : List ℕ). moved z k) (set_split l k (g s k n) fits))
 
-    pub grow-end : k ≢ 0 → get_or l (k - 1) 0 < g s k n → moved (set l k (g s k n)) k ≡ grow_in s k l n
+    pub grow_end : k ≢ 0 → get_or l (k - 1) 0 < g s k n → moved (set l k (g s k n)) k ≡ grow_in s k l n
     unfolding grow_in grow
-    grow-end e h =
+    grow_end e h =
         rw (long, last_take k l (omega (arith, e)) (omega arith), ne_eqb k 0 e, lt-ltb (get_or l (k - 1) 0) (g s k n) h, append_assoc (take k l) (g s k n ∷ []) (drop (suc k) l))
         (ap (λ (z : List ℕ). moved z k) (set_split l k (g s k n) fits))
 
     -- or the samples are lowered, and the old last goes to the end
-    pub grow-mid : k ≢ 0 → (b : ℕ) → get_or l (k - 1) 0 ≡ b → g s k n ≤ b
+    pub grow_mid : k ≢ 0 → (b : ℕ) → get_or l (k - 1) 0 ≡ b → g s k n ≤ b
         → (m : List ℕ) (p : ℕ) → moved m p ≡ lower_at s k l b → moved (set m k b) p ≡ grow_in s k l n
     unfolding grow_in grow
-    grow-mid e b q h m p is =
+    grow_mid e b q h m p is =
         let down : Moved = lower s (take k l) b in
         let both : moved m p ≡ moved (down.samples ++ drop k l) down.index = is ∙ lower_take k l b (omega arith) in
         let list : m ≡ down.samples ++ get_or l k 0 ∷ drop (suc k) l
         = ap (λ (z : Moved). z.samples) both ∙ ap (λ (z : List ℕ). down.samples ++ z) (drop-cons l k 0 fits) in
         let index : p ≡ down.index = ap (λ (z : Moved). z.index) both in
         rw (long, last_take k l (omega (arith, e)) (omega arith), q, ne_eqb k 0 e, le-ltb b (g s k n) h, append_assoc down.samples (b ∷ []) (drop (suc k) l), list, index)
-        (ap (λ (z : List ℕ). moved z down.index) (set_at down.samples (get_or l k 0) (drop (suc k) l) b k (lowered-length b)))
+        (ap (λ (z : List ℕ). moved z down.index) (set_at down.samples (get_or l k 0) (drop (suc k) l) b k (lowered_length b)))
 
   -- ---- within the limit
 

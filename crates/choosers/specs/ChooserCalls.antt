@@ -50,8 +50,8 @@ unfoldable pub new_call : ℕ → ℕ → Told ConsistentChooseKHasher
 new_call s n = cond (ltb (2 ^ 62) n) (refusal 1) (says (chooser_of s n 0))
 
 -- "3 k above n", "4 a lent list shorter than what must be written"
-unfoldable pub new_with_kCall : ℕ → ℕ → ℕ → List ℕ → AfterNew
-new_with_kCall s n k l =
+unfoldable pub new_with_k_call : ℕ → ℕ → ℕ → List ℕ → AfterNew
+new_with_k_call s n k l =
     cond (ltb (2 ^ 62) n) (after_new (refusal 1) l)
     (cond (ltb n k) (after_new (refusal 3) l)
     (cond (ltb (length l) k) (after_new (refusal 4) l)

@@ -1,6 +1,6 @@
 // The chooser of document 01: k of n numbers that stay as k and n change. The samples stand in a list that is lent to each call.
 ghost use Rattle.std.specs.Prelude.{◌≡◌};
-ghost use Rattle.choosers.specs.ChooserCalls.{told_chosen, new_call, after_new, new_with_kCall, fitting, placed, grow_call, drawn, next_call, shrink_call, Consistent, ConsistentNext};
+ghost use Rattle.choosers.specs.ChooserCalls.{told_chosen, new_call, after_new, new_with_k_call, fitting, placed, grow_call, drawn, next_call, shrink_call, Consistent, ConsistentNext};
 ghost use Rattle.choosers.specs.InnerChoosers.{refused_place, refused_draw};
 
 use crate::samples;
@@ -84,7 +84,7 @@ impl ConsistentChooseKHasher {
 
     // The k samples of 0..n, in the first k places: refusals 1, 3, 4.
     pub fn new_with_k(state: u64, n: u64, k: u64, list: &mut [u64]) -> Chosen
-        ensures { after_new (told_chosen result) list.new ≡ new_with_kCall state n k list.old }
+        ensures { after_new (told_chosen result) list.new ≡ new_with_k_call state n k list.old }
     {
         if Self::N_LIMIT < n {
             return Chosen::Refused(1);

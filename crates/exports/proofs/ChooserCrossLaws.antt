@@ -15,10 +15,10 @@ use Rattle.choosers.specs.declared.choose_k.Place.{Place}
 use Rattle.choosers.specs.declared.choose_k.Place.TheVariants as place
 use Rattle.choosers.specs.declared.choose_k.Draw.{Draw}
 use Rattle.choosers.specs.declared.choose_k.Draw.TheVariants as draw
-use Rattle.choosers.specs.ChooserCalls.{fitting, After, after_new, told_chosen, told_place, told_draw, new_call, new_with_kCall}
+use Rattle.choosers.specs.ChooserCalls.{fitting, After, after_new, told_chosen, told_place, told_draw, new_call, new_with_k_call}
 use Rattle.exports.specs.Coded.{truth, coded_done, coded_number, coded_hash}
 use Rattle.exports.specs.Crossings.{crossed, crossed_one, enough, words_after}
-use Rattle.exports.specs.Chooser.{chooser_words, chooser_as, words_made, new_crossed, new_with_kCrossed, left_as, fits_crossed}
+use Rattle.exports.specs.Chooser.{chooser_words, chooser_as, words_made, new_crossed, new_with_k_crossed, left_as, fits_crossed}
 
 -- ---- the record goes to the words, by what was said
 
@@ -53,9 +53,9 @@ module _ (ws : List ℕ) (h : 3 ≤ length ws) (r : ℕ) (ws' : List ℕ) where
   unfolding new_crossed
   new_crosses s n m e f = rw (le-ltb (length ws) 3 h, ← e) f
 
-  pub new_with_k_crosses : (s n k : ℕ) (l l' : List ℕ) (m : Chosen) → after_new (told_chosen m) l' ≡ new_with_kCall s n k l → crossed_one r ws' ≡ crossed_one (coded_done (told_chosen m)) (words_made ws (told_chosen m))
-      → crossed r ws' l' ≡ new_with_kCrossed s n k l ws
-  unfolding new_with_kCrossed
+  pub new_with_k_crosses : (s n k : ℕ) (l l' : List ℕ) (m : Chosen) → after_new (told_chosen m) l' ≡ new_with_k_call s n k l → crossed_one r ws' ≡ crossed_one (coded_done (told_chosen m)) (words_made ws (told_chosen m))
+      → crossed r ws' l' ≡ new_with_k_crossed s n k l ws
+  unfolding new_with_k_crossed
   new_with_k_crosses s n k l l' m e f = rw (le-ltb (length ws) 3 h, ← e) (λ i. crossed (f i).answer (f i).list l')
 
   -- a call on the record in the words, with any coding of what it says

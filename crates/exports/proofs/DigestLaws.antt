@@ -26,7 +26,7 @@ module _ {W : Type 0} {step : W → Step W} {rest : W → List ℕ} {good : W �
   calls false w = 0
 
   pub record Turned (d : ℕ) (w : W) : Type 0 where
-    pub stays-good : good (step w).walk
+    pub stays_good : good (step w).walk
     pub feeds : fed_all (fed_with d (step w).said) (left (says_hash (step w).said) (step w).walk) ≡ fed_all d (rest w)
     pub fewer : calls (says_hash (step w).said) (step w).walk < suc (length (rest w))
 
@@ -34,8 +34,8 @@ module _ {W : Type 0} {step : W → Step W} {rest : W → List ℕ} {good : W �
   turned d w g = go (turn w g)
     where
       go : Turn step rest good w → Turned d w
-      go (ended said stays nothing empty) = record { stays-good = stays; feeds = rw (said, empty); fewer = rw (said, empty) (omega arith) }
-      go (gave x said more splits) = record { stays-good = more; feeds = rw (said, splits); fewer = rw (said, splits) (omega arith) }
+      go (ended said stays nothing empty) = record { stays_good = stays; feeds = rw (said, empty); fewer = rw (said, empty) (omega arith) }
+      go (gave x said more splits) = record { stays_good = more; feeds = rw (said, splits); fewer = rw (said, splits) (omega arith) }
 
   -- the same, of a step t that the code made, the number e and the truth b that it worked out from it
   pub record Fed (d e : ℕ) (b : Bool) (v w : W) : Type 0 where
@@ -48,7 +48,7 @@ module _ {W : Type 0} {step : W → Step W} {rest : W → List ℕ} {good : W �
       let k : Turned d w = turned d w g in
       let q' : e ≡ fed_with d (step w).said = rw p at q in
       let r' : b ≡ says_hash (step w).said = rw p at r in
-      rw (q', r', p) (record { goes_on = k.stays-good; same = k.feeds; less = k.fewer })
+      rw (q', r', p) (record { goes_on = k.stays_good; same = k.feeds; less = k.fewer })
 
 -- ---- the answer of a call that makes a walk and feeds it, over any walk: xs n is what it gives
 

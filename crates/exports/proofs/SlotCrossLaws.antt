@@ -33,21 +33,21 @@ module _ (c : ℕ) (t : List ℕ) (m : ConsistentNodeMap) (is : m ≡ map_of c) 
     unfolding add_crossed
     add_slot x r s w = rw (from_count, s, w)
 
-    pub add-refused : (x r : ℕ) → a.slot ≡ slot.Refused x → r ≡ 2 ^ 63 + x → crossed_one r t' ≡ add_crossed c t
+    pub add_refused : (x r : ℕ) → a.slot ≡ slot.Refused x → r ≡ 2 ^ 63 + x → crossed_one r t' ≡ add_crossed c t
     unfolding add_crossed
-    add-refused x r s w = rw (from_count, s, w)
+    add_refused x r s w = rw (from_count, s, w)
 
   module _ (x : ℕ) (a : Removed) (t' : List ℕ) (e : removed a t' ≡ remove_call m t x) where
-    removed-count : remove_call (map_of c) t x ≡ removed a t'
-    removed-count = sym (e ∙ ap (λ (z : ConsistentNodeMap). remove_call z t x) is)
+    removed_count : remove_call (map_of c) t x ≡ removed a t'
+    removed_count = sym (e ∙ ap (λ (z : ConsistentNodeMap). remove_call z t x) is)
 
-    pub remove-done : (r : ℕ) → a.outcome ≡ outcome.Done → r ≡ a.map.total → crossed_one r t' ≡ remove_crossed c t x
+    pub remove_done : (r : ℕ) → a.outcome ≡ outcome.Done → r ≡ a.map.total → crossed_one r t' ≡ remove_crossed c t x
     unfolding remove_crossed
-    remove-done r s w = rw (removed-count, s, w)
+    remove_done r s w = rw (removed_count, s, w)
 
-    pub remove-refused : (v r : ℕ) → a.outcome ≡ outcome.Refused v → r ≡ 2 ^ 63 + v → crossed_one r t' ≡ remove_crossed c t x
+    pub remove_refused : (v r : ℕ) → a.outcome ≡ outcome.Refused v → r ≡ 2 ^ 63 + v → crossed_one r t' ≡ remove_crossed c t x
     unfolding remove_crossed
-    remove-refused v r s w = rw (removed-count, s, w)
+    remove_refused v r s w = rw (removed_count, s, w)
 
 -- ---- the queries and get
 

@@ -4,7 +4,7 @@ use Rattle.std.specs.Prelude.{List, [], ◌∷◌, ℕ, ◌^◌, get_or}
 use Rattle.lists.specs.Told.{Told, refusal, says}
 use Rattle.lists.specs.Lists.{written}
 use Rattle.choosers.specs.declared.choose_k.ConsistentChooseKHasher.{ConsistentChooseKHasher}
-use Rattle.choosers.specs.ChooserCalls.{chooser_of, After, fitting, new_call, new_with_kCall, grow_call, next_call, shrink_call}
+use Rattle.choosers.specs.ChooserCalls.{chooser_of, After, fitting, new_call, new_with_k_call, grow_call, next_call, shrink_call}
 use Rattle.exports.specs.Coded.{truth, coded_done, coded_number, coded_hash}
 use Rattle.exports.specs.Crossings.{Crossed, crossed, CrossedOne, crossed_one, enough, enough_else, short_of, words_after}
 
@@ -27,9 +27,9 @@ new_crossed s n ws =
     let t = new_call s n in
     enough_else (short_of (2 ^ 62) 0 n) 3 ws (λ a. crossed_one a ws) (crossed_one (coded_done t) (words_made ws t))
 
-unfoldable pub new_with_kCrossed : ℕ → ℕ → ℕ → List ℕ → List ℕ → Crossed
-new_with_kCrossed s n k l ws =
-    let m = new_with_kCall s n k l in
+unfoldable pub new_with_k_crossed : ℕ → ℕ → ℕ → List ℕ → List ℕ → Crossed
+new_with_k_crossed s n k l ws =
+    let m = new_with_k_call s n k l in
     enough_else (short_of (2 ^ 62) k n) 3 ws (λ a. crossed a ws l) (crossed (coded_done m.told) (words_made ws m.told) m.list)
 
 -- ---- grow_k, next and shrink_n

@@ -4,7 +4,7 @@ ghost use Rattle.lists.specs.Lists.{written};
 ghost use Rattle.choosers.specs.ChooserCalls.{told_chosen, told_place, told_draw};
 ghost use Rattle.exports.specs.Coded.{coded_done, coded_number, coded_hash};
 ghost use Rattle.exports.specs.Crossings.{crossed, crossed_one, words_after};
-ghost use Rattle.exports.specs.Chooser.{chooser_words, chooser_as, words_made, new_crossed, new_with_kCrossed, grow_crossed, next_crossed, shrink_crossed, fits_crossed};
+ghost use Rattle.exports.specs.Chooser.{chooser_words, chooser_as, words_made, new_crossed, new_with_k_crossed, grow_crossed, next_crossed, shrink_crossed, fits_crossed};
 
 use crate::parts;
 use choosers::choose_k::{Chosen, ConsistentChooseKHasher, Draw, Drawn, Place, Placed};
@@ -97,7 +97,7 @@ pub fn perillajamb_chooser_new_with_k(
     list: &mut [u64],
     words: &mut [u64],
 ) -> u64
-    ensures { crossed result words.new list.new ≡ new_with_kCrossed state n k list.old words.old }
+    ensures { crossed result words.new list.new ≡ new_with_k_crossed state n k list.old words.old }
 {
     if words.len() < 3 {
         let short = parts::short_of(0x4000_0000_0000_0000, k, n);

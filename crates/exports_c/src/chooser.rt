@@ -1,7 +1,7 @@
 // Choosers.
 ghost use Rattle.std.specs.Prelude.{◌≡◌};
 ghost use Rattle.exports.specs.Crossings.{crossed, crossed_one};
-ghost use Rattle.exports.specs.Chooser.{new_crossed, new_with_kCrossed, grow_crossed, next_crossed, shrink_crossed, fits_crossed};
+ghost use Rattle.exports.specs.Chooser.{new_crossed, new_with_k_crossed, grow_crossed, next_crossed, shrink_crossed, fits_crossed};
 
 // No sample of 0..n yet.
 #[unsafe(no_mangle)]
@@ -20,7 +20,7 @@ pub extern "C" fn perillajamb_chooser_new_with_k(
     list: &mut [u64],
     words: &mut [u64],
 ) -> u64
-    ensures { crossed result words.new list.new ≡ new_with_kCrossed state n k list.old words.old }
+    ensures { crossed result words.new list.new ≡ new_with_k_crossed state n k list.old words.old }
 {
     exports::chooser::perillajamb_chooser_new_with_k(state, n, k, list, words)
 }

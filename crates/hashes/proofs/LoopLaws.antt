@@ -73,14 +73,14 @@ module _ (n j low : ℕ) (small : 2 ^ j < n) where
     after_one : n ≤ x → first_later n j low 255 d ≡ first_later n j low 254 e
     after_one l = draw_passes 255 d x (omega arith) (rw draw-e at is_x) l ∙ ap (first_later n j low 254) (sym draw-e)
 
-    pub two-decide : z < n → cond (below (2 ^ j) z) low z ≡ first_later n j low 255 d
-    two-decide h =
+    pub two_decide : z < n → cond (below (2 ^ j) z) low z ≡ first_later n j low 255 d
+    two_decide h =
         by_below x n
         (λ l. let q : z ≡ x = is-z ∙ rw (below_yes x n l) in rw q (sym (draw_decides 255 d x (omega arith) (rw draw-e at is_x) l)))
         (λ l. let q : z ≡ y = is-z ∙ rw (below_no x n l) in rw q (sym (after_one l ∙ draw_decides 254 e y (omega arith) (rw draw-f at is_y) (omega arith))))
 
-    pub two-pass : n ≤ z → first_later n j low 253 f ≡ first_later n j low 255 d
-    two-pass h =
+    pub two_pass : n ≤ z → first_later n j low 253 f ≡ first_later n j low 255 d
+    two_pass h =
         by_below x n
         (λ l. let q : z ≡ x = is-z ∙ rw (below_yes x n l) in absurd (omega arith))
         (λ l. let q : z ≡ y = is-z ∙ rw (below_no x n l) in

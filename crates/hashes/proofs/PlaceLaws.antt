@@ -43,18 +43,18 @@ pub next_place : (s k t : ℕ) → k ≤ 63 → Lowest 64 (ended s / 2 ^ k) t �
 next_place s k t h l = record {
   from = omega arith;
   to = inside;
-  clear = λ i p q. set_no s i (sym (ended_bit s i (omega (arith, inside))) ∙ zero-at i p q);
+  clear = λ i p q. set_no s i (sym (ended_bit s i (omega (arith, inside))) ∙ zero_at i p q);
   set = λ p. set_yes s (k + t) (sym (ended_bit s (k + t) p) ∙ one_at);
 }
   where
-    zero-at : (i : ℕ) → k ≤ i → i < k + t → ended s / 2 ^ i % 2 ≡ 0
-    zero-at i p q = sym (left_bit (ended s) k i p) ∙ below_lowest 64 (ended s / 2 ^ k) t (i - k) l (omega arith)
+    zero_at : (i : ℕ) → k ≤ i → i < k + t → ended s / 2 ^ i % 2 ≡ 0
+    zero_at i p q = sym (left_bit (ended s) k i p) ∙ below_lowest 64 (ended s / 2 ^ k) t (i - k) l (omega arith)
 
     one_at : ended s / 2 ^ (k + t) % 2 ≡ 1
     one_at = let e : k + t - k ≡ t = omega arith in sym (left_bit (ended s) k (k + t) (omega arith)) ∙ rw e l.one
 
     inside : k + t ≤ 63
-    inside = by_below 63 (k + t) (λ p. absurd (omega (arith, zero-at 63 h p, ended_top s))) (λ p. p)
+    inside = by_below 63 (k + t) (λ p. absurd (omega (arith, zero_at 63 h p, ended_top s))) (λ p. p)
 
 -- ---- where the rising walk starts
 

@@ -27,25 +27,25 @@ module _ (c : Current) (l t l' t' ls ts : List ℕ) (places : ℕ) (cmd : Comman
       subst (λ (y : Acted). Printable y.output ls ts) (sym q) tt,
     )
 
-    pub act-open : (key k n : ℕ) → cmd ≡ command.Open key k n → said_by a l' t' ≡ open_line key k n (site c l t) → Acts
+    pub act_open : (key k n : ℕ) → cmd ≡ command.Open key k n → said_by a l' t' ≡ open_line key k n (site c l t) → Acts
     unfolding answered
-    act-open key k n e is = acts (open_line key k n (site c l t)) is (ap (answered before) (sym e))
+    act_open key k n e is = acts (open_line key k n (site c l t)) is (ap (answered before) (sym e))
 
-    pub act-admit : cmd ≡ command.Admit → said_by a l' t' ≡ admit_line (site c l t) → Acts
+    pub act_admit : cmd ≡ command.Admit → said_by a l' t' ≡ admit_line (site c l t) → Acts
     unfolding answered
-    act-admit e is = acts (admit_line (site c l t)) is (ap (answered before) (sym e))
+    act_admit e is = acts (admit_line (site c l t)) is (ap (answered before) (sym e))
 
-    pub act-join : cmd ≡ command.Join → said_by a l' t' ≡ join_line (site c l t) → Acts
+    pub act_join : cmd ≡ command.Join → said_by a l' t' ≡ join_line (site c l t) → Acts
     unfolding answered
-    act-join e is = acts (join_line (site c l t)) is (ap (answered before) (sym e))
+    act_join e is = acts (join_line (site c l t)) is (ap (answered before) (sym e))
 
-    pub act-withdraw : (x : ℕ) → cmd ≡ command.Withdraw x → said_by a l' t' ≡ withdraw_line x (site c l t) → Acts
+    pub act_withdraw : (x : ℕ) → cmd ≡ command.Withdraw x → said_by a l' t' ≡ withdraw_line x (site c l t) → Acts
     unfolding answered
-    act-withdraw x e is = acts (withdraw_line x (site c l t)) is (ap (answered before) (sym e))
+    act_withdraw x e is = acts (withdraw_line x (site c l t)) is (ap (answered before) (sym e))
 
-    pub act-refused : (w : ℕ) → cmd ≡ command.Refused w → l' ≡ l → t' ≡ t → a ≡ refused_by c w → Acts
+    pub act_refused : (w : ℕ) → cmd ≡ command.Refused w → l' ≡ l → t' ≡ t → a ≡ refused_by c w → Acts
     unfolding answered
-    act-refused w e m n r =
+    act_refused w e m n r =
         acts (said (Replies.refused w) (site c l t)) (ap (λ (x : Answered). said_by x l' t') r ∙ (λ i. said (Replies.refused w) (site c (m i) (n i)))) (ap (answered before) (sym e))
 
 -- a plan's

@@ -3,7 +3,7 @@
 -- Assumes nothing.
 use mathlib.Core.Path.{◌≡◌, refl, sym, ap, ◌∙◌}
 use mathlib.Core.Logic.{◌≢◌}
-use mathlib.Core.Bool.{true, false, and-false}
+use mathlib.Core.Bool.{true, false, and_false}
 use mathlib.Core.List.{List, [], ◌∷◌}
 use mathlib.Core.Option.{none, some}
 use Prim.Native.Nat.{ℕ, zero, suc, ◌+◌, ◌-◌, ◌*◌, ◌^◌, ◌≤◌, ◌<◌}
@@ -32,7 +32,7 @@ pub alike_length : (a b : List ℕ) → length a ≢ length b → alike a b ≡ 
 alike_length [] [] n = absurd (n refl)
 alike_length [] (y ∷ b) n = refl
 alike_length (x ∷ a) [] n = refl
-alike_length (x ∷ a) (y ∷ b) n = rw (alike_length a b (λ e. n (ap suc e))) (and-false (eqb x y))
+alike_length (x ∷ a) (y ∷ b) n = rw (alike_length a b (λ e. n (ap suc e))) (and_false (eqb x y))
 
 module _ (a b : List ℕ) (i : ℕ) where
   pub alike_turn : i < length a → i < length b → get_or a i 0 ≡ get_or b i 0 → alike (drop i a) (drop i b) ≡ alike (drop (i + 1) a) (drop (i + 1) b)
@@ -95,7 +95,7 @@ under a e b p = rw (lt-leb a b p)
 
 pub over : (a e b : ℕ) → e < b → within a e b ≡ false
 unfolding within
-over a e b p = rw (lt-leb b e p) (and-false (leb a b))
+over a e b p = rw (lt-leb b e p) (and_false (leb a b))
 
 module _ (b : ℕ) where
   pub digit_decimal : 48 ≤ b → b ≤ 57 → digit_of b ≡ b - 48

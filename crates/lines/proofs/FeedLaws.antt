@@ -220,20 +220,20 @@ module _ (w : World) (line piece out : List ℕ) (held : ℕ) where
   feed_past h = rw (lt-ltb (length line) held h, or-true)
 
   module _ (few : held ≤ 81) (within : held ≤ length line) where
-    pub feed-short : length line < 81 → after_feed (refusal 4) w (take held line) held out ≡ feed_call w line held piece out
+    pub feed_short : length line < 81 → after_feed (refusal 4) w (take held line) held out ≡ feed_call w line held piece out
     unfolding feed_call
-    feed-short h = rw (le-ltb 81 held few, le-ltb (length line) held within, lt-ltb (length line) 81 h)
+    feed_short h = rw (le-ltb 81 held few, le-ltb (length line) held within, lt-ltb (length line) 81 h)
 
-    pub feed-close : length out < room_for w.locations → after_feed (refusal 4) w (take held line) held out ≡ feed_call w line held piece out
+    pub feed_close : length out < room_for w.locations → after_feed (refusal 4) w (take held line) held out ≡ feed_call w line held piece out
     unfolding feed_call
-    feed-close h = rw (le-ltb 81 held few, le-ltb (length line) held within, lt-ltb (length out) (room_for w.locations) h, or-true)
+    feed_close h = rw (le-ltb 81 held few, le-ltb (length line) held within, lt-ltb (length out) (room_for w.locations) h, or-true)
 
-    pub feed-took : (most : ℕ) (w' : World) (line' out' : List ℕ) (held' taken put : ℕ) → most ≡ length out - room_for w.locations
+    pub feed_took : (most : ℕ) (w' : World) (line' out' : List ℕ) (held' taken put : ℕ) → most ≡ length out - room_for w.locations
         → 81 ≤ length line → room_for w.locations ≤ length out → length line' ≡ length line
         → Took most (progress w (take held line) []) piece out w' line' out' held' taken put
         → after_feed (says (count taken put)) w' (take held' line') held' out' ≡ feed_call w line held piece out
     unfolding feed_call
-    feed-took most w' line' out' held' taken put m l r k t =
+    feed_took most w' line' out' held' taken put m l r k t =
         let a : length piece - length (drop taken piece) ≡ taken = omega (arith, t.inside, length-drop taken piece) in
         let b : length (take put out') ≡ put = length-take-le put out' t.fits in
         let c : length (take held' line') ≡ held' = length-take-le held' line' (omega (arith, t.few)) in

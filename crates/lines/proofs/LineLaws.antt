@@ -78,36 +78,36 @@ module _ (c : Current) (l t : List ℕ) where
     unfolding admit_line
     admit_none = said_refused a c 12 l t q ∙ none_yet c _ _ e
 
-    pub join-none : said_by a l t ≡ join_line (site c l t)
+    pub join_none : said_by a l t ≡ join_line (site c l t)
     unfolding join_line
-    join-none = said_refused a c 12 l t q ∙ none_yet c _ _ e
+    join_none = said_refused a c 12 l t q ∙ none_yet c _ _ e
 
-    pub withdraw-none : (x : ℕ) → said_by a l t ≡ withdraw_line x (site c l t)
+    pub withdraw_none : (x : ℕ) → said_by a l t ≡ withdraw_line x (site c l t)
     unfolding withdraw_line
-    withdraw-none x = said_refused a c 12 l t q ∙ none_yet c _ _ e
+    withdraw_none x = said_refused a c 12 l t q ∙ none_yet c _ _ e
 
   module _ (r : Round) (e : c ≡ current.Open r) (x : Answer) where
-    pub admit-on : (a : Admission) (l' : List ℕ) → admission a l' t ≡ admit_call (state r l t) → line_of x ≡ replied exchange_reply (Reservoir.told_exchange a.exchange)
+    pub admit_on : (a : Admission) (l' : List ℕ) → admission a l' t ≡ admit_call (state r l t) → line_of x ≡ replied exchange_reply (Reservoir.told_exchange a.exchange)
         → said (line_of x) (site (current.Open a.round) l' t) ≡ admit_line (site c l t)
     unfolding admit_line
-    admit-on a l' is told =
+    admit_on a l' is told =
         ap (λ (y : Replies.Reply). said y (site (current.Open a.round) l' t)) told
         ∙ ap (said_of exchange_reply) is
         ∙ on_round_lem c r _ _ e
 
-    pub join-on : (a : Joining) (t' : List ℕ) → joining a l t' ≡ join_call (state r l t) → line_of x ≡ replied Replies.joined (Slots.told_slot a.slot)
+    pub join_on : (a : Joining) (t' : List ℕ) → joining a l t' ≡ join_call (state r l t) → line_of x ≡ replied Replies.joined (Slots.told_slot a.slot)
         → said (line_of x) (site (current.Open a.round) l t') ≡ join_line (site c l t)
     unfolding join_line
-    join-on a t' is told =
+    join_on a t' is told =
         ap (λ (y : Replies.Reply). said y (site (current.Open a.round) l t')) told
         ∙ ap (said_of Replies.joined) is
         ∙ on_round_lem c r _ _ e
 
-    pub withdraw-on : (s : ℕ) (a : Withdrawal) (t' : List ℕ) → withdrawal a l t' ≡ withdraw_call (state r l t) s
+    pub withdraw_on : (s : ℕ) (a : Withdrawal) (t' : List ℕ) → withdrawal a l t' ≡ withdraw_call (state r l t) s
         → line_of x ≡ replied (λ u. Replies.withdrawn s) (Slots.told_outcome a.outcome)
         → said (line_of x) (site (current.Open a.round) l t') ≡ withdraw_line s (site c l t)
     unfolding withdraw_line
-    withdraw-on s a t' is told =
+    withdraw_on s a t' is told =
         ap (λ (y : Replies.Reply). said y (site (current.Open a.round) l t')) told
         ∙ ap (said_of (λ u. Replies.withdrawn s)) is
         ∙ on_round_lem c r _ _ e

@@ -67,26 +67,26 @@ pub record Short (r : ConsistentReservoir) (l : List ℕ) (a : After (Option (�
 module _ (r : ConsistentReservoir) (l : List ℕ) (k0 : 0 < r.k) (k_le : r.k ≤ r.n) (i : ℕ) (n_le : r.n ≤ 4 ^ suc i) (i-le : i ≤ 14) (at : ends_at r ≡ some i) where
   -- an exchange by v, after which u places stand
   module _ (xs : List ℕ) (v : ℕ) (least : smallest (keep (not_below r.n) xs) ≡ some v) (c : Comes (key_of r) (suc i) r.k r.n xs v) where
-    by-v : exchange r i xs l ≡ exchange_by r i xs l v (standing (below (suc v)) r.k xs (length xs - 1))
+    by_v : exchange r i xs l ≡ exchange_by r i xs l v (standing (below (suc v)) r.k xs (length xs - 1))
     unfolding exchange incoming
-    by-v = rw (least, add-one v)
+    by_v = rw (least, add-one v)
 
-    v-due : due (key_of r) r.k r.n ≡ some v
-    v-due = due_some (key_of r) r.k r.n v c.next (omega (arith, c.small, pow_up (suc i) 15 (omega arith)))
+    v_due : due (key_of r) r.k r.n ≡ some v
+    v_due = due_some (key_of r) r.k r.n v c.next (omega (arith, c.small, pow_up (suc i) 15 (omega arith)))
 
-    end-length : length (take (standing (below (suc v)) r.k xs (length xs - 1)) xs) ≡ standing (below (suc v)) r.k xs (length xs - 1)
-    end-length = length-take-le _ xs (omega (arith, standing_le (below (suc v)) r.k xs (length xs - 1)))
+    end_length : length (take (standing (below (suc v)) r.k xs (length xs - 1)) xs) ≡ standing (below (suc v)) r.k xs (length xs - 1)
+    end_length = length-take-le _ xs (omega (arith, standing_le (below (suc v)) r.k xs (length xs - 1)))
 
     too_short : length l < standing (below (suc v)) r.k xs (length xs - 1) → Short r l (exchange r i xs l)
     unfolding exchange_by
     too_short h = record {
       v = v;
       j = i;
-      is_due = v-due;
+      is_due = v_due;
       j_le = i-le;
       ends_at_lem = at;
-      short = omega (arith, end-length, ap length c.list, ap length (held_place (key_of r) i r.k (suc v) i-le));
-      is_refused = by-v ∙ rw (lt-ltb (length l) _ h);
+      short = omega (arith, end_length, ap length c.list, ap length (held_place (key_of r) i r.k (suc v) i-le));
+      is_refused = by_v ∙ rw (lt-ltb (length l) _ h);
     }
 
     exchanged : standing (below (suc v)) r.k xs (length xs - 1) ≤ length l → Admits r (exchange r i xs l)
@@ -94,15 +94,15 @@ module _ (r : ConsistentReservoir) (l : List ℕ) (k0 : 0 < r.k) (k_le : r.k ≤
     exchanged h =
         let u : ℕ = standing (below (suc v)) r.k xs (length xs - 1) in
         let e : exchange r i xs l ≡ after (says (some (v, last xs))) (reservoir_of (key_of r) r.k (v + 1) i u) (written (take u xs) l) =
-        by-v ∙ rw (le-ltb (length l) u h) in
+        by_v ∙ rw (le-ltb (length l) u h) in
         let s : v + 1 ≤ 4 ^ suc i = omega (arith, c.small) in
         let t : take u xs ≡ held_at (key_of r) (suc i) r.k (v + 1) = rw (add-one v) c.list in
         subst (λ (a : After (Option (ℕ × ℕ))). Admits r a) (sym e) (record {
-          told_is = rw v-due (ap (λ (x : ℕ). says (some (v, x))) c.out);
+          told_is = rw v_due (ap (λ (x : ℕ). says (some (v, x))) c.out);
           key_is = refl;
           k_is = refl;
-          n_is = rw v-due (add-one v);
-          kept = written_kept (key_of r) r.k (v + 1) i u (take u xs) l k0 (omega (arith, c.next.large)) s i-le (sym end-length) t;
+          n_is = rw v_due (add-one v);
+          kept = written_kept (key_of r) r.k (v + 1) i u (take u xs) l k0 (omega (arith, c.next.large)) s i-le (sym end_length) t;
         })
 
   -- from the list of layer i, which is longer than k

@@ -88,20 +88,20 @@ module _ (r : ConsistentReservoir) (w : Wide) (l : List ℕ)
   above_k = (fact.shape.some_k, omega (arith, used_some r l fact, p.1, fact.shape.used_le))
 
   module _ (e : ℕ) (is : e ≡ standing (below (w.low + 1)) r.k (outputs (key_of r) w.layer) (w.inputs - 1)) where
-    pub end-le : e ≤ w.inputs - 1
-    end-le = rw is (standing_le (below (w.low + 1)) r.k (outputs (key_of r) w.layer) (w.inputs - 1))
+    pub end_le : e ≤ w.inputs - 1
+    end_le = rw is (standing_le (below (w.low + 1)) r.k (outputs (key_of r) w.layer) (w.inputs - 1))
 
-    pub end-rank : r.k - 1 ≡ rank_of (key_of r) w.layer e
-    end-rank =
+    pub end_rank : r.k - 1 ≡ rank_of (key_of r) w.layer e
+    end_rank =
         sym (ap (rank_of (key_of r) w.layer) is
         ∙ rank_standing (key_of r) w.layer w.low r.k v_from (w.inputs - 1) above_fit
         ∙ ap (λ (m : ℕ). rank_of (key_of r) w.layer (m - 1)) inputs_is
         ∙ (reached_last (key_of r) w.layer r.k fact.shape.some_k kq).before)
 
-    above-is : exchange r w.layer (grown (key_of r) w.layer r.k (listed r l)) l
+    above_is : exchange r w.layer (grown (key_of r) w.layer r.k (listed r l)) l
         ≡ exchange_by r w.layer (grown (key_of r) w.layer r.k (listed r l)) l w.low e
     unfolding exchange
-    above-is =
+    above_is =
         let more : r.k < length (reached (key_of r) w.layer r.k) = omega (arith, goes.more, ap length (zeros_at (key_of r) w.layer r.k)) in
         let v : incoming r.n (grown (key_of r) w.layer r.k (listed r l)) ≡ w.low =
         grow_low r w.layer l fact p.1 p.2 goes.high more ∙ sym low_is in
@@ -111,17 +111,17 @@ module _ (r : ConsistentReservoir) (w : Wide) (l : List ℕ)
         rw (is, inputs_is) (grow_standing r w.layer l fact p.1 p.2 goes.high w.low v_from) in
         rw (v, m, t)
 
-    pub above-refused : length l < e → admitted (refusal r 4) l ≡ exchange r w.layer (grown (key_of r) w.layer r.k (listed r l)) l
+    pub above_refused : length l < e → admitted (refusal r 4) l ≡ exchange r w.layer (grown (key_of r) w.layer r.k (listed r l)) l
     unfolding exchange_by
-    above-refused h = sym (above-is ∙ rw (lt-ltb (length l) e h))
+    above_refused h = sym (above_is ∙ rw (lt-ltb (length l) e h))
 
-    pub above-done : e ≤ length l → admitted (exchanged r w.layer e w.low (get_or l (r.k - 1) 0)) (laid_of (key_of r) w.layer e l)
+    pub above_done : e ≤ length l → admitted (exchanged r w.layer e w.low (get_or l (r.k - 1) 0)) (laid_of (key_of r) w.layer e l)
         ≡ exchange r w.layer (grown (key_of r) w.layer r.k (listed r l)) l
     unfolding exchange_by
-    above-done h =
+    above_done h =
         let b : written (take e (grown (key_of r) w.layer r.k (listed r l))) l ≡ laid_of (key_of r) w.layer e l =
-        grow_laid r w.layer l fact p.1 p.2 goes.high e (omega (arith, end-le, inputs_is)) (omega (arith, end-rank)) in
-        sym (above-is ∙ rw (le-ltb (length l) e h, grow_last r w.layer l fact p.1 p.2 goes.high, b))
+        grow_laid r w.layer l fact p.1 p.2 goes.high e (omega (arith, end_le, inputs_is)) (omega (arith, end_rank)) in
+        sym (above_is ∙ rw (le-ltb (length l) e h, grow_last r w.layer l fact p.1 p.2 goes.high, b))
 
 -- ---- the step to the next layer
 module _ (r : ConsistentReservoir) (l : List ℕ) (p : (fitting r l ≡ true) × (r.used ≤ r.k) × (j_of r < 14))

@@ -59,31 +59,31 @@ module _ (key i : ℕ) where
       rw add-one at r
 
   module _ (old : List ℕ) (e : ℕ) (fits : e ≤ length old) where
-    laid-front : length (replace (below (4 ^ i)) (outs key i 0 e) old) ≡ e
-    laid-front = replace_length (below (4 ^ i)) (outs key i 0 e) old ∙ length_outs key i 0 e
+    laid_front : length (replace (below (4 ^ i)) (outs key i 0 e) old) ≡ e
+    laid_front = replace_length (below (4 ^ i)) (outs key i 0 e) old ∙ length_outs key i 0 e
 
-    pub length-laid : length (laid_of key i e old) ≡ length old
+    pub length_laid : length (laid_of key i e old) ≡ length old
     unfolding laid_of
-    length-laid = simp (length-append, length-drop, laid-front) (omega arith)
+    length_laid = simp (length-append, length-drop, laid_front) (omega arith)
 
-    pub drop-laid : drop e (laid_of key i e old) ≡ drop e old
+    pub drop_laid : drop e (laid_of key i e old) ≡ drop e old
     unfolding laid_of
-    drop-laid = drop_at (replace (below (4 ^ i)) (outs key i 0 e) old) (drop e old) e laid-front
+    drop_laid = drop_at (replace (below (4 ^ i)) (outs key i 0 e) old) (drop e old) e laid_front
 
-    laid-at : (p : ℕ) → p < e → get_or (laid_of key i e old) p 0 ≡ cond (ltb (layer i key p) (4 ^ i)) (get_or old (rank_of key i p) 0) (layer i key p)
+    laid_at : (p : ℕ) → p < e → get_or (laid_of key i e old) p 0 ≡ cond (ltb (layer i key p) (4 ^ i)) (get_or old (rank_of key i p) 0) (layer i key p)
     unfolding laid_of rank_of below
-    laid-at p h =
-        let l : p < length (replace (below (4 ^ i)) (outs key i 0 e) old) = omega (arith, laid-front) in
+    laid_at p h =
+        let l : p < length (replace (below (4 ^ i)) (outs key i 0 e) old) = omega (arith, laid_front) in
         let s : get_or (outs key i 0 e) p 0 ≡ layer i key p = outs_at key i 0 e p h ∙ ap (layer i key) (zero-add p) in
         get_or-append (replace (below (4 ^ i)) (outs key i 0 e) old) (drop e old) 0 p l
         ∙ replace_at (below (4 ^ i)) (outs key i 0 e) old p (omega (arith, length_outs key i 0 e))
         ∙ rw (s, take_outs key i 0 e p (omega arith))
 
-    pub laid-yes : (p : ℕ) → p < e → layer i key p < 4 ^ i → get_or (laid_of key i e old) p 0 ≡ get_or old (rank_of key i p) 0
-    laid-yes p h y = laid-at p h ∙ rw (lt-ltb _ _ y)
+    pub laid_yes : (p : ℕ) → p < e → layer i key p < 4 ^ i → get_or (laid_of key i e old) p 0 ≡ get_or old (rank_of key i p) 0
+    laid_yes p h y = laid_at p h ∙ rw (lt-ltb _ _ y)
 
-    pub laid-no : (p : ℕ) → p < e → 4 ^ i ≤ layer i key p → get_or (laid_of key i e old) p 0 ≡ layer i key p
-    laid-no p h y = laid-at p h ∙ rw (le-ltb _ _ y)
+    pub laid_no : (p : ℕ) → p < e → 4 ^ i ≤ layer i key p → get_or (laid_of key i e old) p 0 ≡ layer i key p
+    laid_no p h y = laid_at p h ∙ rw (le-ltb _ _ y)
 
 -- ---- a turn: the places from p on are written, t old entries are left, and the place p - 1 is next
 module _ (key i : ℕ) (old : List ℕ) (e : ℕ) (fits : e ≤ length old) (p t : ℕ) (list : List ℕ) (pos : 0 < p) (le : p ≤ e) (ranked : t ≡ rank_of key i p) (is : list ≡ part old (laid_of key i e old) p) where
@@ -91,7 +91,7 @@ module _ (key i : ℕ) (old : List ℕ) (e : ℕ) (fits : e ≤ length old) (p t
   back = omega arith
 
   pub turn_length : length list ≡ length old
-  turn_length = ap length is ∙ length_part old (laid_of key i e old) (length-laid key i old e fits) p (omega arith)
+  turn_length = ap length is ∙ length_part old (laid_of key i e old) (length_laid key i old e fits) p (omega arith)
 
   pub yes_rank : layer i key (p - 1) < 4 ^ i → t ≡ rank_of key i (p - 1) + 1
   yes_rank y = ranked ∙ ap (rank_of key i) (sym back) ∙ rank_yes key i (p - 1) y
@@ -101,7 +101,7 @@ module _ (key i : ℕ) (old : List ℕ) (e : ℕ) (fits : e ≤ length old) (p t
 
   write : (v : ℕ) → v ≡ get_or (laid_of key i e old) (p - 1) 0 → set list (p - 1) v ≡ part old (laid_of key i e old) (p - 1)
   write v h =
-      let s = part_set old (laid_of key i e old) (length-laid key i old e fits) (p - 1) (omega arith) in
+      let s = part_set old (laid_of key i e old) (length_laid key i old e fits) (p - 1) (omega arith) in
       rw (is, h) (rw back at s)
 
   pub yes_list : layer i key (p - 1) < 4 ^ i → set list (p - 1) (get_or list (t - 1) 0) ≡ part old (laid_of key i e old) (p - 1)
@@ -109,15 +109,15 @@ module _ (key i : ℕ) (old : List ℕ) (e : ℕ) (fits : e ≤ length old) (p t
       let r : t - 1 ≡ rank_of key i (p - 1) = omega (arith, yes_rank y) in
       let low : t - 1 < p = omega (arith, yes_rank y, rank_le key i (p - 1)) in
       write (get_or list (t - 1) 0)
-      (ap (λ (l : List ℕ). get_or l (t - 1) 0) is ∙ part_old old (laid_of key i e old) (length-laid key i old e fits) p (t - 1) low (omega arith)
-      ∙ ap (λ (j : ℕ). get_or old j 0) r ∙ sym (laid-yes key i old e fits (p - 1) (omega arith) y))
+      (ap (λ (l : List ℕ). get_or l (t - 1) 0) is ∙ part_old old (laid_of key i e old) (length_laid key i old e fits) p (t - 1) low (omega arith)
+      ∙ ap (λ (j : ℕ). get_or old j 0) r ∙ sym (laid_yes key i old e fits (p - 1) (omega arith) y))
 
   pub no_list : 4 ^ i ≤ layer i key (p - 1) → set list (p - 1) (layer i key (p - 1)) ≡ part old (laid_of key i e old) (p - 1)
-  no_list y = write (layer i key (p - 1)) (sym (laid-no key i old e fits (p - 1) (omega arith) y))
+  no_list y = write (layer i key (p - 1)) (sym (laid_no key i old e fits (p - 1) (omega arith) y))
 
 -- the loop's start and end
 pub cover_start : (key i : ℕ) (old : List ℕ) (e : ℕ) → e ≤ length old → old ≡ part old (laid_of key i e old) e
-cover_start key i old e h = sym (rw (drop-laid key i old e h) (take-append-drop e old))
+cover_start key i old e h = sym (rw (drop_laid key i old e h) (take-append-drop e old))
 
 pub part_zero : (old new : List ℕ) (p : ℕ) → p ≤ 0 → part old new p ≡ new
 part_zero old new p h = let z : p ≡ 0 = omega arith in rw z

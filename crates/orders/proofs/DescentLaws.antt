@@ -116,21 +116,21 @@ module _ (key : ℕ) where
 
   -- the same with the code's variables: x the counter, s the layer's size, y its output, q what is below it 00
   module _ (j x s : ℕ) (cs : List ℕ) (counter-is : x ≡ counter cs j) (size_is : s ≡ size j) where
-    pub stop-spent : s ≤ x → 4 ^ 15 ≡ stop_of key j cs
-    stop-spent h = sym (spent_is j cs (omega arith))
+    pub stop_spent : s ≤ x → 4 ^ 15 ≡ stop_of key j cs
+    stop_spent h = sym (spent_is j cs (omega arith))
 
     module _ (y q : ℕ) (room : x < s) (output-is : y ≡ layer j key x) (quarter-is : q ≡ 4 ^ j) where
-      at-counter : layer j key (counter cs j) ≡ y
-      at-counter = ap (layer j key) (sym counter-is) ∙ sym output-is
+      at_counter : layer j key (counter cs j) ≡ y
+      at_counter = ap (layer j key) (sym counter-is) ∙ sym output-is
 
-      pub stop-here : q ≤ y → y ≡ stop_of key j cs
-      stop-here h = sym (here_is j cs (omega arith) (omega (arith, at-counter)) ∙ at-counter)
+      pub stop_here : q ≤ y → y ≡ stop_of key j cs
+      stop_here h = sym (here_is j cs (omega arith) (omega (arith, at_counter)) ∙ at_counter)
 
-      pub stop-zero : y < q → j ≡ 0 → 0 ≡ stop_of key j cs
-      stop-zero h e = sym (zero_is j cs e (omega arith) (omega (arith, at-counter)))
+      pub stop_zero : y < q → j ≡ 0 → 0 ≡ stop_of key j cs
+      stop_zero h e = sym (zero_is j cs e (omega arith) (omega (arith, at_counter)))
 
-      pub stop-down : y < q → (j ≡ 0 → ⊥) → stop_of key (j - 1) cs ≡ stop_of key j cs
-      stop-down h e = sym (down_is j cs e (omega arith) (omega (arith, at-counter)))
+      pub stop_down : y < q → (j ≡ 0 → ⊥) → stop_of key (j - 1) cs ≡ stop_of key j cs
+      stop_down h e = sym (down_is j cs e (omega arith) (omega (arith, at_counter)))
 
   -- ---- which counters a number raised
 

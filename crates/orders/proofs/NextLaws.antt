@@ -163,7 +163,7 @@ module _ (o : ConsistentPermutation) where
     free : meets (key_of o) i o.counters ≡ false
     gives : (next_number (key_of o) i o.counters).number ≡ y
     low : layer_of (y + 1) ≤ i
-    raises-to : (next_number (key_of o) i o.counters).counters ≡ raises o.counters (layer_of (y + 1)) (suc i - layer_of (y + 1))
+    raises_to : (next_number (key_of o) i o.counters).counters ≡ raises o.counters (layer_of (y + 1)) (suc i - layer_of (y + 1))
 
   stopped : (i y : ℕ) → y ≡ stop_of (key_of o) i o.counters → y < 4 ^ 15 → Stopped i y
   unfolding stop_of
@@ -177,7 +177,7 @@ module _ (o : ConsistentPermutation) where
         free = m;
         gives = sym f;
         low = omega (arith, r.reaches);
-        raises-to = r.raised ∙ rw g refl;
+        raises_to = r.raised ∙ rw g refl;
       })
 
   pub lower_low : (i y l : ℕ) → y ≡ stop_of (key_of o) i o.counters → y < 4 ^ 15 → l ≡ layer_of (y + 1) → l ≤ i
@@ -189,7 +189,7 @@ module _ (o : ConsistentPermutation) where
   lower_gave top x y l p e h f =
       let s : Stopped (top - 1) y = stopped (top - 1) y e h in
       let g : suc (top - 1) ≡ top = omega arith in
-      rw (s.free, s.gives, s.raises-to, g, f) refl
+      rw (s.free, s.gives, s.raises_to, g, f) refl
 
   -- ---- the call, outcome by outcome
 

@@ -48,14 +48,14 @@ firsts n list i = keep (below n) (take i list)
 
 module _ (n : ℕ) (list : List ℕ) (i : ℕ) where
   module _ (lt : i < length list) where
-    firsts-next : firsts n list (i + 1) ≡ firsts n list i ++ keep (below n) (get_or list i 0 ∷ [])
-    firsts-next = rw (add-one i, take-suc list i 0 lt) (keep_append (below n) (take i list) (get_or list i 0 ∷ []))
+    firsts_next : firsts n list (i + 1) ≡ firsts n list i ++ keep (below n) (get_or list i 0 ∷ [])
+    firsts_next = rw (add-one i, take-suc list i 0 lt) (keep_append (below n) (take i list) (get_or list i 0 ∷ []))
 
-    firsts-yes : get_or list i 0 < n → firsts n list (i + 1) ≡ firsts n list i ++ (get_or list i 0 ∷ [])
-    firsts-yes y = firsts-next ∙ rw (below_yes (get_or list i 0) n y)
+    firsts_yes : get_or list i 0 < n → firsts n list (i + 1) ≡ firsts n list i ++ (get_or list i 0 ∷ [])
+    firsts_yes y = firsts_next ∙ rw (below_yes (get_or list i 0) n y)
 
-    firsts-no : n ≤ get_or list i 0 → firsts n list (i + 1) ≡ firsts n list i
-    firsts-no y = firsts-next ∙ rw (below_no (get_or list i 0) n y, append-nil)
+    firsts_no : n ≤ get_or list i 0 → firsts n list (i + 1) ≡ firsts n list i
+    firsts_no y = firsts_next ∙ rw (below_no (get_or list i 0) n y, append-nil)
 
   firsts_le : (used : ℕ) → i ≤ used → length (firsts n list i) ≤ length (firsts n list used)
   firsts_le used h = rw (take-take i used list h) at (keep_take_le (below n) i (take used list))
@@ -92,36 +92,36 @@ module _ (f : ℕ → ℕ) (r : Round) (list ls ts : List ℕ)
       )
 
   module _ (lt : i < r.used) where
-    pub dealt-room : get_or list i 0 < r.n → (p < length ls) × (p < length ts)
+    pub dealt_room : get_or list i 0 < r.n → (p < length ls) × (p < length ts)
     unfolding sample
-    dealt-room y =
+    dealt_room y =
         let b = firsts_le r.n list (i + 1) r.used (omega arith) in
-        let e = ap length (firsts-yes r.n list i (omega arith) y) ∙ length_snoc (firsts r.n list i) (get_or list i 0) in
+        let e = ap length (firsts_yes r.n list i (omega arith) y) ∙ length_snoc (firsts r.n list i) (get_or list i 0) in
         let c = d.counted in
         (omega arith, omega arith)
 
-    pub dealt-yes : get_or list i 0 < r.n → (s : ℕ) → s ≡ f (get_or list i 0)
+    pub dealt_yes : get_or list i 0 < r.n → (s : ℕ) → s ≡ f (get_or list i 0)
         → Dealt f r.n list ls ts (i + 1) (p + 1) (set locations p (get_or list i 0)) (set terminals p s)
-    dealt-yes y s e =
+    dealt_yes y s e =
         let x = get_or list i 0 in
         let xs = firsts r.n list i in
-        let more : firsts r.n list (i + 1) ≡ xs ++ (x ∷ []) = firsts-yes r.n list i (omega arith) y in
+        let more : firsts r.n list (i + 1) ≡ xs ++ (x ∷ []) = firsts_yes r.n list i (omega arith) y in
         let c = d.counted in
         record {
           counted = omega (arith, ap length more, length_snoc xs x);
           located =
               ap (λ (z : List ℕ). set z p x) d.located
-              ∙ written_more xs ls p x c (dealt-room y).0
+              ∙ written_more xs ls p x c (dealt_room y).0
               ∙ ap (λ (z : List ℕ). written z ls) (sym more);
           served =
               (λ j. set (d.served j) p (e j))
-              ∙ written_more (map f xs) ts p (f x) (c ∙ sym (length-map xs f)) (dealt-room y).1
+              ∙ written_more (map f xs) ts p (f x) (c ∙ sym (length-map xs f)) (dealt_room y).1
               ∙ ap (λ (z : List ℕ). written z ts) (sym (ap (map f) more ∙ map-append f xs (x ∷ [])));
         }
 
-    pub dealt-no : r.n ≤ get_or list i 0 → Dealt f r.n list ls ts (i + 1) p locations terminals
-    dealt-no y =
-        let same = sym (firsts-no r.n list i (omega arith) y) in
+    pub dealt_no : r.n ≤ get_or list i 0 → Dealt f r.n list ls ts (i + 1) p locations terminals
+    dealt_no y =
+        let same = sym (firsts_no r.n list i (omega arith) y) in
         record {
           counted = d.counted ∙ ap length same;
           located = d.located ∙ ap (λ (z : List ℕ). written z ls) same;

@@ -19,7 +19,7 @@ use Rattle.choosers.specs.declared.node_map.Truth.{Truth}
 use Rattle.choosers.specs.declared.node_map.Truth.TheVariants as truth
 use Rattle.choosers.specs.Slots.{actives, state_of}
 use Rattle.choosers.specs.SlotCalls.{slot_limit, told_truth}
-use Rattle.choosers.proofs.GetLaws.{look-all}
+use Rattle.choosers.proofs.GetLaws.{look_all}
 use Rattle.rounds.specs.declared.round.Round.{Round}
 use Rattle.rounds.specs.Rounds.{reservoir_of, map_of, state, fitting}
 use Rattle.rounds.specs.Plans.{after_plan, terminal_of, plan_call}
@@ -67,19 +67,19 @@ module _ (r : Round) (l t ls ts : List ℕ) (places : ℕ) where
   plan_unfit w e = rw (e.0, e.1)
 
   module _ (idle : Bool) (y : Ready r l t idle) where
-    pub few-locations : length ls < r.k → after_plan (refusal 4) ls ts ≡ plan_call (state r l t) ls ts places
+    pub few_locations : length ls < r.k → after_plan (refusal 4) ls ts ≡ plan_call (state r l t) ls ts places
     unfolding plan_call
-    few-locations h = rw (y.fits, lt-ltb (length ls) r.k h)
+    few_locations h = rw (y.fits, lt-ltb (length ls) r.k h)
 
     module _ (a : r.k ≤ length ls) where
-      pub few-terminals : length ts < r.k → after_plan (refusal 4) ls ts ≡ plan_call (state r l t) ls ts places
+      pub few_terminals : length ts < r.k → after_plan (refusal 4) ls ts ≡ plan_call (state r l t) ls ts places
       unfolding plan_call
-      few-terminals h = rw (y.fits, le-ltb (length ls) r.k a, lt-ltb (length ts) r.k h)
+      few_terminals h = rw (y.fits, le-ltb (length ls) r.k a, lt-ltb (length ts) r.k h)
 
       module _ (b : r.k ≤ length ts) where
-        pub few-places : places < min (length t) slot_limit → after_plan (refusal 4) ls ts ≡ plan_call (state r l t) ls ts places
+        pub few_places : places < min (length t) slot_limit → after_plan (refusal 4) ls ts ≡ plan_call (state r l t) ls ts places
         unfolding plan_call
-        few-places h = rw (y.fits, le-ltb (length ls) r.k a, le-ltb (length ts) r.k b, lt-ltb places (min (length t) slot_limit) h)
+        few_places h = rw (y.fits, le-ltb (length ls) r.k a, le-ltb (length ts) r.k b, lt-ltb places (min (length t) slot_limit) h)
 
         module _ (c : min (length t) slot_limit ≤ places) where
           pub plan_none : idle ≡ true → after_plan (refusal 11) ls ts ≡ plan_call (state r l t) ls ts places
@@ -87,16 +87,16 @@ module _ (r : Round) (l t ls ts : List ℕ) (places : ℕ) where
           plan_none e = rw (y.fits, le-ltb (length ls) r.k a, le-ltb (length ts) r.k b, le-ltb places (min (length t) slot_limit) c, y.none, e)
 
           -- with scratch enough the lookup finds get's slot
-          dealt-slot : (x : ℕ) → dealt_to r.master_key r.total t places x ≡ terminal_of (state r l t) x
+          dealt_slot : (x : ℕ) → dealt_to r.master_key r.total t places x ≡ terminal_of (state r l t) x
           unfolding dealt_to terminal_of
-          dealt-slot x = ap (λ (o : Option ℕ). get_or o 0) (look-all (map_of r) t (state_of r.master_key x) places (fits_both r l t y.fits).1 c)
+          dealt_slot x = ap (λ (o : Option ℕ). get_or o 0) (look_all (map_of r) t (state_of r.master_key x) places (fits_both r l t y.fits).1 c)
 
-          pub plan-done : idle ≡ false → (locations terminals : List ℕ)
+          pub plan_done : idle ≡ false → (locations terminals : List ℕ)
               → (locations ≡ written (sample (reservoir_of r) l) ls)
               × (terminals ≡ written (map (dealt_to r.master_key r.total t places) (sample (reservoir_of r) l)) ts)
               → after_plan (says tt) locations terminals ≡ plan_call (state r l t) ls ts places
           unfolding plan_call
-          plan-done e locations terminals d =
+          plan_done e locations terminals d =
               (λ i. after_plan (says tt) (d.0 i) (d.1 i))
-              ∙ ap (λ (f : ℕ → ℕ). after_plan (says tt) (written (sample (reservoir_of r) l) ls) (written (map f (sample (reservoir_of r) l)) ts)) (fun_ext dealt-slot)
+              ∙ ap (λ (f : ℕ → ℕ). after_plan (says tt) (written (sample (reservoir_of r) l) ls) (written (map f (sample (reservoir_of r) l)) ts)) (fun_ext dealt_slot)
               ∙ rw (y.fits, le-ltb (length ls) r.k a, le-ltb (length ts) r.k b, le-ltb places (min (length t) slot_limit) c, y.none, e)

@@ -158,11 +158,11 @@ module _ (key k n : ℕ) (codes t ws ls ts : List ℕ) (places : ℕ) where
 
   opened_good : (o : AfterOpen) (l : List ℕ) → open_call key k n l ≡ o → Good (opened_run o.told o.list t (map call_of codes) ws ls ts places)
   unfolding run_of
-  opened_good o l e = by-told o.told (ap (λ (a : AfterOpen). a.told) e)
+  opened_good o l e = by_told o.told (ap (λ (a : AfterOpen). a.told) e)
     where
-      by-told : (w : Told Round) → (open_call key k n l).told ≡ w → Good (opened_run w o.list t (map call_of codes) ws ls ts places)
-      by-told (refusal w) q = refused_good w (opened_run (refusal w) o.list t (map call_of codes) ws ls ts places) refl
-      by-told (says r) q = λ h. run_ledger key k n (state r o.list t) (record { lent = l; accepted = (λ i. after_open (q i) (e i).list) }) (map call_of codes) ws ls ts places
+      by_told : (w : Told Round) → (open_call key k n l).told ≡ w → Good (opened_run w o.list t (map call_of codes) ws ls ts places)
+      by_told (refusal w) q = refused_good w (opened_run (refusal w) o.list t (map call_of codes) ws ls ts places) refl
+      by_told (says r) q = λ h. run_ledger key k n (state r o.list t) (record { lent = l; accepted = (λ i. after_open (q i) (e i).list) }) (map call_of codes) ws ls ts places
 
   replay_good : (l : List ℕ) → Good (replay_call key k n codes l t ws ls ts places)
   unfolding replay_call

@@ -198,12 +198,12 @@ module _ (key k n : ℕ) (codes l t ws ls ts : List ℕ) (places : ℕ) where
 
   -- what open said, and the list that it left
   module _ (y : every known codes ≡ true) (long : length codes < length ws / 4) (o : Opened) (l' : List ℕ) (opens : after_open (told_opened o) l' ≡ open_call key k n l) where
-    pub replay-refused : (w : ℕ) → o ≡ opened.Refused w → after_replay (refusal w) l' t ws ls ts ≡ replay_call key k n codes l t ws ls ts places
+    pub replay_refused : (w : ℕ) → o ≡ opened.Refused w → after_replay (refusal w) l' t ws ls ts ≡ replay_call key k n codes l t ws ls ts places
     unfolding replay_call
-    replay-refused w m = rw (y, le-ltb (length ws) (4 * length codes + 4) (omega arith), ← opens, m)
+    replay_refused w m = rw (y, le-ltb (length ws) (4 * length codes + 4) (omega arith), ← opens, m)
 
-    pub replay-run : (r : Round) (l'' t' ws' ls' ts' : List ℕ) → o ≡ opened.Made r
+    pub replay_run : (r : Round) (l'' t' ws' ls' ts' : List ℕ) → o ≡ opened.Made r
         → after_replay (says tt) l'' t' ws' ls' ts' ≡ run_of (state r l' t) (map call_of codes) ws ls ts places
         → after_replay (says tt) l'' t' ws' ls' ts' ≡ replay_call key k n codes l t ws ls ts places
     unfolding replay_call
-    replay-run r l'' t' ws' ls' ts' m e = rw (y, le-ltb (length ws) (4 * length codes + 4) (omega arith), ← opens, m) e
+    replay_run r l'' t' ws' ls' ts' m e = rw (y, le-ltb (length ws) (4 * length codes + 4) (omega arith), ← opens, m) e

@@ -21,7 +21,7 @@ use Rattle.choosers.specs.declared.node_map.Removed.{Removed}
 use Rattle.choosers.specs.declared.node_map.Truth.{Truth}
 use Rattle.choosers.specs.Slots.{actives}
 use Rattle.choosers.specs.SlotCalls as Slots
-use Rattle.choosers.proofs.SlotCallLaws.{add_unfit, remove-unfit, query_unfit, query_fit}
+use Rattle.choosers.proofs.SlotCallLaws.{add_unfit, remove_unfit, query_unfit, query_fit}
 use Rattle.rounds.specs.declared.round.Round.{Round}
 use Rattle.rounds.specs.Rounds.{reservoir_of, map_of, state, fitting, after_open, open_call, refused, by_reservoir, by_slots, admission, admit_call, joining, join_call, withdrawal, withdraw_call}
 use Rattle.rounds.specs.InnerRounds.{begun, with_reservoir, with_map, idle_of}
@@ -125,24 +125,24 @@ module _ (r : Round) (l t : List ℕ) where
   -- ---- withdraw
 
   module _ (x : ℕ) where
-    pub withdraw-refused : Reservoir.fitting (reservoir_of r) l ≡ false → refused 12 (state r l t) ≡ withdraw_call (state r l t) x
+    pub withdraw_refused : Reservoir.fitting (reservoir_of r) l ≡ false → refused 12 (state r l t) ≡ withdraw_call (state r l t) x
     unfolding withdraw_call
-    withdraw-refused e = rw (list_unfit e)
+    withdraw_refused e = rw (list_unfit e)
 
-    withdraw-by : Reservoir.fitting (reservoir_of r) l ≡ true → by_slots (state r l t) (Slots.remove_call (map_of r) t x) ≡ withdraw_call (state r l t) x
+    withdraw_by : Reservoir.fitting (reservoir_of r) l ≡ true → by_slots (state r l t) (Slots.remove_call (map_of r) t x) ≡ withdraw_call (state r l t) x
     unfolding withdraw_call
-    withdraw-by ok =
+    withdraw_by ok =
         by_test (Slots.fitting (map_of r) t)
         (λ y. rw (list_fit ok, y))
-        (λ m. rw (list_fit ok, m, remove-unfit (map_of r) t x m))
+        (λ m. rw (list_fit ok, m, remove_unfit (map_of r) t x m))
 
-    pub withdraw-code : Reservoir.fitting (reservoir_of r) l ≡ true → (m : ConsistentNodeMap) (b : Removed) (after : List ℕ) (s : Round)
+    pub withdraw_code : Reservoir.fitting (reservoir_of r) l ≡ true → (m : ConsistentNodeMap) (b : Removed) (after : List ℕ) (s : Round)
         → m ≡ map_of r → Slots.removed b after ≡ Slots.remove_call m t x → s ≡ with_map r b.map
         → withdrawal (record { round = s; outcome = b.outcome }) l after ≡ withdraw_call (state r l t) x
-    withdraw-code ok m b after s e f g =
+    withdraw_code ok m b after s e f g =
         ap (λ (y : Round). withdrawal (record { round = y; outcome = b.outcome }) l after) g
         ∙ ap (by_slots (state r l t)) (f ∙ ap (λ (y : ConsistentNodeMap). Slots.remove_call y t x) e)
-        ∙ withdraw-by ok
+        ∙ withdraw_by ok
 
   -- ---- whether no slot is active
 

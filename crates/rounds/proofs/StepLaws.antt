@@ -22,9 +22,9 @@ use Rattle.orders.proofs.AdmissionLaws.{in_out, reached_by, Short, Admits, admit
 use Rattle.choosers.specs.declared.node_map.ConsistentNodeMap.{ConsistentNodeMap}
 use Rattle.choosers.specs.Slots.{active, vacant}
 use Rattle.choosers.specs.SlotCalls as Slots
-use Rattle.choosers.proofs.SlotCallLaws.{remove-none}
+use Rattle.choosers.proofs.SlotCallLaws.{remove_none}
 use Rattle.choosers.proofs.SlotLaws.{has_actives}
-use Rattle.choosers.proofs.AddLaws.{vacant_le, vacant_outside, add-room, add-no-room, add_actives, add_count, add_fits, add_bytes}
+use Rattle.choosers.proofs.AddLaws.{vacant_le, vacant_outside, add_room, add_no_room, add_actives, add_count, add_fits, add_bytes}
 use Rattle.choosers.proofs.RemoveLaws.{remove_active, remove_actives, remove_count, remove_fits, remove_bytes}
 use Rattle.rounds.specs.Rounds.{reservoir_of, map_of, State, fitting, After, refused, by_reservoir, by_slots, admit_call, join_call, withdraw_call}
 use Rattle.rounds.specs.Ledgers.{Call, admit, join, withdraw, Ledger, ledger, n_after, due_in, free_slot, accept, in_and_out, answer, fed}
@@ -126,7 +126,7 @@ module _ (s : State) (A : List ℕ) (set : Same (actives_of s) A) (kept : Kept s
   join_takes : v < min (length s.table) Slots.slot_limit → Takes g join (valued slot_said (by_slots s (Slots.add_call m s.table)))
   unfolding accept answer
   join_takes r =
-      let e : (Slots.add_call m s.table).told ≡ says v = add-room m s.table kept.table r in
+      let e : (Slots.add_call m s.table).told ≡ says v = add_room m s.table kept.table r in
       record {
         told_is = ap (map_told slot_said) e ∙ ap (λ (x : ℕ). says (x ∷ [])) vacant_free;
         shows = record {
@@ -144,7 +144,7 @@ module _ (s : State) (A : List ℕ) (set : Same (actives_of s) A) (kept : Kept s
       (λ h. inr (join_takes h))
       (λ h. inl (record {
         no_room = rw (← vacant_free) h;
-        is = ap (λ (a : Slots.After ℕ). valued slot_said (by_slots s a)) (add-no-room m s.table kept.table h);
+        is = ap (λ (a : Slots.After ℕ). valued slot_said (by_slots s a)) (add_no_room m s.table kept.table h);
       })))
 
   -- ---- withdraw
@@ -156,9 +156,9 @@ module _ (s : State) (A : List ℕ) (set : Same (actives_of s) A) (kept : Kept s
         (λ e. rw (eq-eqb (x + 1) s.round.total e) (omega arith))
         (λ d. rw (ne_eqb (x + 1) s.round.total d) refl)
 
-    withdraw-takes : active s.table s.round.total x ≡ true → Takes g (withdraw x) (valued nothing_said (by_slots s (Slots.remove_call m s.table x)))
+    withdraw_takes : active s.table s.round.total x ≡ true → Takes g (withdraw x) (valued nothing_said (by_slots s (Slots.remove_call m s.table x)))
     unfolding accept answer
-    withdraw-takes y =
+    withdraw_takes y =
         let e : (Slots.remove_call m s.table x).told ≡ says tt = remove_active m s.table x kept.table y in
         record {
           told_is = ap (map_told nothing_said) e;
@@ -169,21 +169,21 @@ module _ (s : State) (A : List ℕ) (set : Same (actives_of s) A) (kept : Kept s
           };
         }
 
-    withdraw-outcome : Outcome s g (withdraw x) (call s (withdraw x))
+    withdraw_outcome : Outcome s g (withdraw x) (call s (withdraw x))
     unfolding call withdraw_call
-    withdraw-outcome =
+    withdraw_outcome =
         through (Outcome s g (withdraw x)) nothing_said (fitting s) (by_slots s (Slots.remove_call m s.table x)) (refused 12 s) (fits_kept s kept)
         (by_test (active s.table s.round.total x)
-        (λ y. inr (withdraw-takes y))
+        (λ y. inr (withdraw_takes y))
         (λ n. inl (record {
           no_room = sym (set x) ∙ has_actives s.table s.round.total x ∙ n;
-          is = ap (λ (a : Slots.After (Unit {0})). valued nothing_said (by_slots s a)) (remove-none m s.table x kept.table n);
+          is = ap (λ (a : Slots.After (Unit {0})). valued nothing_said (by_slots s a)) (remove_none m s.table x kept.table n);
         })))
 
   outcome_shown : (x : Call) → Outcome s g x (call s x)
   outcome_shown admit = admit_outcome
   outcome_shown join = join_outcome
-  outcome_shown (withdraw x) = withdraw-outcome x
+  outcome_shown (withdraw x) = withdraw_outcome x
 
 -- the same of a round and any ledger that it shows
 pub outcome : (s : State) (g : Ledger) → Shows s g → (x : Call) → Outcome s g x (call s x)

@@ -15,21 +15,21 @@ use Rattle.stocktake.specs.Pieces.{Within, PartOf}
 
 module _ (w : World) (line : List ℕ) (m : ℕ) (out : List ℕ) where
   module _ (piece : List ℕ) where
-    feeding-within : (x : Feeding) → told_feeding x ≡ (feed_call w line m piece out).told → (out' : List ℕ) → out' ≡ (feed_call w line m piece out).out
+    feeding_within : (x : Feeding) → told_feeding x ≡ (feed_call w line m piece out).told → (out' : List ℕ) → out' ≡ (feed_call w line m piece out).out
         → length out' ≡ length out → Within x out'
-    feeding-within (feeding.Fed t p) e out' o k = omega (arith, feed_within (feed_feeds w line m piece out t p (sym e)) (sym (ap length o) ∙ k))
-    feeding-within (feeding.Refused c) e out' o k = tt
+    feeding_within (feeding.Fed t p) e out' o k = omega (arith, feed_within (feed_feeds w line m piece out t p (sym e)) (sym (ap length o) ∙ k))
+    feeding_within (feeding.Refused c) e out' o k = tt
 
-    feeding-part : (x : Feeding) → told_feeding x ≡ (feed_call w line m piece out).told → (n : ℕ) → PartOf n x → n ≤ length piece
-    feeding-part (feeding.Fed t p) e n h = omega (arith, (feed_feeds w line m piece out t p (sym e)).inside)
-    feeding-part (feeding.Refused c) e n h = omega arith
+    feeding_part : (x : Feeding) → told_feeding x ≡ (feed_call w line m piece out).told → (n : ℕ) → PartOf n x → n ≤ length piece
+    feeding_part (feeding.Fed t p) e n h = omega (arith, (feed_feeds w line m piece out t p (sym e)).inside)
+    feeding_part (feeding.Refused c) e n h = omega arith
 
     module _ (f : Fed) (w' : World) (line' out' : List ℕ) (is : after_call f w' line' out' ≡ feed_call w line m piece out) where
-      pub feed-puts : length out' ≡ length out → Within f.feeding out'
-      feed-puts k = feeding-within f.feeding (ap (λ (a : AfterFeed). a.told) is) out' (ap (λ (a : AfterFeed). a.out) is) k
+      pub feed_puts : length out' ≡ length out → Within f.feeding out'
+      feed_puts k = feeding_within f.feeding (ap (λ (a : AfterFeed). a.told) is) out' (ap (λ (a : AfterFeed). a.out) is) k
 
-      pub feed-takes : (n : ℕ) → PartOf n f.feeding → n ≤ length piece
-      feed-takes n h = feeding-part f.feeding (ap (λ (a : AfterFeed). a.told) is) n h
+      pub feed_takes : (n : ℕ) → PartOf n f.feeding → n ≤ length piece
+      feed_takes n h = feeding_part f.feeding (ap (λ (a : AfterFeed). a.told) is) n h
 
   ending_within : (x : Feeding) → told_feeding x ≡ (end_call w line m out).told → (out' : List ℕ) → out' ≡ (end_call w line m out).out → length out' ≡ length out → Within x out'
   ending_within (feeding.Fed t p) e out' o k = omega (arith, finish_within (finish_ends w line m out t p (sym e)) (sym (ap length o) ∙ k))

@@ -7,7 +7,7 @@ use borrow.Author.Rules.{rules}
 use lib.ListN.{get_or, length-set}
 use Rattle.choosers.specs.InnerLookups.{lows}
 use Rattle.choosers.proofs.TurnLaws.{turn_stop, turn_end}
-use Rattle.choosers.proofs.LookupLaws.{low_at, turn-less, turn-leaves}
+use Rattle.choosers.proofs.LookupLaws.{low_at, turn_less, turn_leaves}
 use Rattle.choosers.proofs.lookups.lower.Goals as goal
 use Rattle.choosers.proofs.lookups.lower.Goals.{After-larger_at-b, After-sample_of}
 
@@ -20,7 +20,7 @@ less : (c : After-larger_at-b) → (c.own-v.result < c.loop-i.m) × (c.larger_at
 less c =
     let l = c.loop-i in
     let b = c.larger_at-b.ensures in
-    turn-less _ l.scratch _ _ _ _ (omega arith) (omega arith) c.own-v.ensures b.0 b.1 l.invariant.7
+    turn_less _ l.scratch _ _ _ _ (omega arith) (omega arith) c.own-v.ensures b.0 b.1 l.invariant.7
 
 pub loop-i-init : goal.loop-i-init
 loop-i-init c = let p = c.requires in (search rules, refl, search rules, search rules, refl, p.3, p.4, p.5)
@@ -44,7 +44,7 @@ loop-i-preserved c =
     let v = l.invariant in
     let b = c.larger_at-b.ensures in
     let stays : l.m ≤ get_or (lows l.scratch) (l.i - 1) 0 = omega (arith, seen (goal.at.loop-i-preserved c).After-sample_of) in
-    let w = turn-leaves _ l.scratch _ _ _ _ (omega arith) (omega arith) c.own-v.ensures b.0 b.1 _ _ v.0 (omega arith) v.3 stays c.place_of.ensures v.5 v.6 v.7 in
+    let w = turn_leaves _ l.scratch _ _ _ _ (omega arith) (omega arith) c.own-v.ensures b.0 b.1 _ _ v.0 (omega arith) v.3 stays c.place_of.ensures v.5 v.6 v.7 in
     (omega arith, omega (arith, length-set l.scratch (l.i - 1) c.place_of.result), w.0, omega (arith, w.1), v.4 ∙ w.2, w.3, w.4, w.5)
 
 pub returns : goal.returns

@@ -5,7 +5,7 @@ use native.Mathlib.Omega.{arith}
 use borrow.Author.Rules.{rules}
 use Rattle.choosers.specs.Choosers.{S}
 use Rattle.choosers.proofs.OrderLaws.{Q_below}
-use Rattle.choosers.proofs.LookLaws.{look_first, look-next, look_hit, look_over}
+use Rattle.choosers.proofs.LookLaws.{look_first, look_next, look_hit, look_over}
 use Rattle.choosers.proofs.node_map.first_active.Goals as goal
 
 pub loop-k-init : goal.loop-k-init
@@ -32,7 +32,7 @@ pub loop-k-preserved : goal.loop-k-preserved
 loop-k-preserved c =
     let v = c.loop-k.invariant in (
       c.next_number-x.auto.scratch ∙ v.0,
-      look-next _ _ _ _ _ (search rules) (search rules) _ c.next_number-x.ensures.0 (sym c.is_one.ensures ∙ c.if-is_one.false) v.1,
+      look_next _ _ _ _ _ (search rules) (search rules) _ c.next_number-x.ensures.0 (sym c.is_one.ensures ∙ c.if-is_one.false) v.1,
       c.next_number-x.ensures.1,
     )
 

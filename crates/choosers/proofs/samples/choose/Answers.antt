@@ -5,7 +5,7 @@ use Prim.Native.Nat.{◌-◌}
 use native.Mathlib.Omega.{arith}
 use borrow.Author.Rules.{rules}
 use lib.ListN.{length-set}
-use Rattle.choosers.proofs.ChooseLaws.{choosing_first, choosing_done, choosing_at, high-ge, high_lt, high-own, choosing-next}
+use Rattle.choosers.proofs.ChooseLaws.{choosing_first, choosing_done, choosing_at, high_ge, high_lt, high_own, choosing_next}
 use Rattle.choosers.proofs.samples.choose.Goals as goal
 
 pub loop-i-init : goal.loop-i-init
@@ -20,9 +20,9 @@ next_samples-high-requires c =
     let l = c.loop-i in
     let now = choosing_at a.state a.k a.n _ l.list l.high l.i (search rules) l.invariant.2 in (
       omega (arith, l.invariant.1, c.first_samples-high.auto.list),
-      high-ge a.state a.k a.n _ l.list l.high (l.i - 1) now,
+      high_ge a.state a.k a.n _ l.list l.high (l.i - 1) now,
       omega (arith, high_lt a.state a.k a.n _ l.list l.high (l.i - 1) now),
-      high-own a.state a.k a.n _ l.list l.high (l.i - 1) now,
+      high_own a.state a.k a.n _ l.list l.high (l.i - 1) now,
     )
 
 pub offset_bounds-list-i : goal.offset_bounds-list-i
@@ -38,7 +38,7 @@ loop-i-preserved c =
     let now = choosing_at a.state a.k a.n _ l.list l.high l.i (search rules) l.invariant.2 in (
       omega arith,
       length-set c.next_samples-high.new.list (l.i - 1) l.high ∙ c.next_samples-high.auto.list ∙ l.invariant.1,
-      choosing-next a.state a.k a.n _ l.list l.high (l.i - 1) now c.next_samples-high.new.list c.next_samples-high.result (omega (arith, c.next_samples-high.auto.list, l.invariant.1, c.first_samples-high.auto.list)) c.next_samples-high.ensures.0 c.next_samples-high.ensures.1 c.next_samples-high.ensures.2,
+      choosing_next a.state a.k a.n _ l.list l.high (l.i - 1) now c.next_samples-high.new.list c.next_samples-high.result (omega (arith, c.next_samples-high.auto.list, l.invariant.1, c.first_samples-high.auto.list)) c.next_samples-high.ensures.0 c.next_samples-high.ensures.1 c.next_samples-high.ensures.2,
     )
 
 pub shape_of-list : goal.shape_of-list

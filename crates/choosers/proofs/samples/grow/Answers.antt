@@ -7,7 +7,7 @@ use borrow.Author.Rules.{rules}
 use lib.ListN.{set}
 use Rattle.choosers.specs.Choosers.{moved}
 use Rattle.choosers.proofs.SampleLaws.{g_ge}
-use Rattle.choosers.proofs.TurnLaws.{grow_first, grow-end, grow-mid}
+use Rattle.choosers.proofs.TurnLaws.{grow_first, grow_end, grow_mid}
 use Rattle.choosers.proofs.samples.grow.Goals as goal
 
 pub returns-then-k-eq0 : goal.returns-then-k-eq0
@@ -18,7 +18,7 @@ returns-then-k-eq0 c =
 pub returns-then-last-x : goal.returns-then-last-x
 returns-then-last-x c =
     let a = c.args in
-    ap (λ (x : ℕ). moved (set a.list.now a.k x) a.k) c.get_sample-x.ensures ∙ grow-end a.state a.k a.n a.list.now (search rules) (search rules) (omega (arith, c.get_sample-x.ensures))
+    ap (λ (x : ℕ). moved (set a.list.now a.k x) a.k) c.get_sample-x.ensures ∙ grow_end a.state a.k a.n a.list.now (search rules) (search rules) (omega (arith, c.get_sample-x.ensures))
 
 pub lower-i-requires : goal.lower-i-requires
 lower-i-requires c =
@@ -28,4 +28,4 @@ lower-i-requires c =
 pub returns : goal.returns
 returns c =
     let a = c.args in
-    grow-mid a.state a.k a.n a.list.now (search rules) (search rules) _ refl (omega (arith, c.get_sample-x.ensures)) _ _ c.lower-i.ensures
+    grow_mid a.state a.k a.n a.list.now (search rules) (search rules) _ refl (omega (arith, c.get_sample-x.ensures)) _ _ c.lower-i.ensures

@@ -2,12 +2,12 @@
 -- Assumes nothing.
 use borrow.Author.Tests.{lt-ltb}
 use borrow.Author.Rules.{rules}
-use Rattle.exports.specs.Chooser.{new_with_kCrossed}
+use Rattle.exports.specs.Chooser.{new_with_k_crossed}
 use Rattle.exports.proofs.ChooserCrossLaws.{new_with_k_crosses}
 use Rattle.exports.proofs.chooser.perillajamb_chooser_new_with_k.Goals as goal
 
 pub returns-then-words-lt3 : goal.returns-then-words-lt3
-unfolding new_with_kCrossed
+unfolding new_with_k_crossed
 returns-then-words-lt3 c = rw (c.refused.ensures, c.short_of-short.ensures, lt-ltb _ 3 c.if-words-lt3.true)
 
 pub returns : goal.returns

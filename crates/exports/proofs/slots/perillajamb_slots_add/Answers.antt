@@ -1,6 +1,6 @@
 -- `exports::slots::perillajamb_slots_add` meets its contract.
 -- Assumes nothing.
-use Rattle.exports.proofs.SlotCrossLaws.{add_slot, add-refused}
+use Rattle.exports.proofs.SlotCrossLaws.{add_slot, add_refused}
 use Rattle.exports.proofs.slots.perillajamb_slots_add.Goals as goal
 
 pub returns-in-Number : goal.returns-in-Number
@@ -9,4 +9,4 @@ returns-in-Number c =
 
 pub returns-in-Refused : goal.returns-in-Refused
 returns-in-Refused c =
-    add-refused _ _ _ c.map_of-m.ensures c.add-a.result _ c.add-a.ensures _ _ c.in-Refused.is c.refused.ensures
+    add_refused _ _ _ c.map_of-m.ensures c.add-a.result _ c.add-a.ensures _ _ c.in-Refused.is c.refused.ensures

@@ -5,7 +5,7 @@ use mathlib.Core.Bool.{cond}
 use Prim.Native.Nat.{ℕ}
 use borrow.Author.Rules.{rules}
 use Rattle.lists.specs.Lists.{below}
-use Rattle.hashes.proofs.LoopLaws.{two-decide, two-pass}
+use Rattle.hashes.proofs.LoopLaws.{two_decide, two_pass}
 use Rattle.hashes.proofs.buckets.later_below.Goals as goal
 
 pub returns-then-x-n : goal.returns-then-x-n
@@ -13,10 +13,10 @@ returns-then-x-n c =
     let a = c.args in
     let z = c.first_of-x.result in
     c.or_low.ensures ∙ ap (λ (b : ℕ). cond (below b z) a.low z) c.power.ensures
-    ∙ two-decide a.n a.j a.low (search rules) _ _ _ _ _ _ c.drawn-e.ensures c.drawn-d.ensures c.remainder.ensures c.remainder-2.ensures c.first_of-x.ensures (search rules)
+    ∙ two_decide a.n a.j a.low (search rules) _ _ _ _ _ _ c.drawn-e.ensures c.drawn-d.ensures c.remainder.ensures c.remainder-2.ensures c.first_of-x.ensures (search rules)
 
 pub returns : goal.returns
 returns c =
     let a = c.args in
     c.more_below.ensures
-    ∙ two-pass a.n a.j a.low (search rules) _ _ _ _ _ _ c.drawn-e.ensures c.drawn-d.ensures c.remainder.ensures c.remainder-2.ensures c.first_of-x.ensures (search rules)
+    ∙ two_pass a.n a.j a.low (search rules) _ _ _ _ _ _ c.drawn-e.ensures c.drawn-d.ensures c.remainder.ensures c.remainder-2.ensures c.first_of-x.ensures (search rules)

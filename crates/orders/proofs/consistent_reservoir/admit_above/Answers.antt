@@ -1,7 +1,7 @@
 -- `orders::consistent_reservoir::admit_above` meets its contract.
 -- Assumes nothing.
 use native.Mathlib.Omega.{arith}
-use Rattle.orders.proofs.AdmitLaws.{above_pos, above_fit, above_v, above_k, end-le, end-rank, above-refused, above-done}
+use Rattle.orders.proofs.AdmitLaws.{above_pos, above_fit, above_v, above_k, end_le, end_rank, above_refused, above_done}
 use Rattle.orders.proofs.consistent_reservoir.admit_above.Goals as goal
 
 pub overflow_sub-inputs : goal.overflow_sub-inputs
@@ -12,7 +12,7 @@ ended-end-requires c = (c.requires.2, above_fit _ _ _ c.requires)
 
 pub returns-then-list-end : goal.returns-then-list-end
 returns-then-list-end c =
-    rw c.refuse.ensures (above-refused _ _ _ c.requires _ c.ended-end.ensures c.if-list-end.true)
+    rw c.refuse.ensures (above_refused _ _ _ c.requires _ c.ended-end.ensures c.if-list-end.true)
 
 pub overflow_sub-last : goal.overflow_sub-last
 overflow_sub-last c = omega (arith, (above_k _ _ _ c.requires).0)
@@ -25,11 +25,11 @@ overflow_sub-k c = omega (arith, (above_k _ _ _ c.requires).0)
 
 pub cover-requires : goal.cover-requires
 cover-requires c =
-    (c.requires.2, omega (arith, end-le _ _ _ c.requires _ c.ended-end.ensures, above_fit _ _ _ c.requires), omega arith, end-rank _ _ _ c.requires _ c.ended-end.ensures)
+    (c.requires.2, omega (arith, end_le _ _ _ c.requires _ c.ended-end.ensures, above_fit _ _ _ c.requires), omega arith, end_rank _ _ _ c.requires _ c.ended-end.ensures)
 
 pub in_out-requires : goal.in_out-requires
 in_out-requires c = above_v _ _ _ c.requires
 
 pub returns : goal.returns
 returns c =
-    rw (c.in_out.ensures, c.cover.ensures) (above-done _ _ _ c.requires _ c.ended-end.ensures (omega arith))
+    rw (c.in_out.ensures, c.cover.ensures) (above_done _ _ _ c.requires _ c.ended-end.ensures (omega arith))

@@ -8,7 +8,7 @@ use lib.ListN.{length}
 use Rattle.layers.specs.Layer.{layer}
 use Rattle.orders.specs.InnerPasses.{rank_of}
 use Rattle.orders.proofs.LogLaws.{size_in}
-use Rattle.orders.proofs.CoverLaws.{rank_le, length-laid, turn_length, yes_rank, no_rank, yes_list, no_list, cover_start, part_zero}
+use Rattle.orders.proofs.CoverLaws.{rank_le, length_laid, turn_length, yes_rank, no_rank, yes_list, no_list, cover_start, part_zero}
 use Rattle.orders.proofs.fills.cover.Goals as goal
 use Rattle.orders.proofs.fills.cover.Goals.{After-output-y, Then-y-q}
 
@@ -68,7 +68,7 @@ loop-p-preserved c =
 
 pub shape_of-list : goal.shape_of-list
 shape_of-list c =
-    ap length (c.loop-p.invariant.5 ∙ part_zero _ _ _ c.loop-p-test.false) ∙ length-laid _ _ _ _ c.requires.2
+    ap length (c.loop-p.invariant.5 ∙ part_zero _ _ _ c.loop-p-test.false) ∙ length_laid _ _ _ _ c.requires.2
 
 pub returns : goal.returns
 returns c = c.loop-p.invariant.5 ∙ part_zero _ _ _ c.loop-p-test.false

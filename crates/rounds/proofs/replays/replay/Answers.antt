@@ -10,7 +10,7 @@ use Rattle.choosers.specs.declared.node_map.Outcome.{Outcome}
 use Rattle.choosers.specs.declared.node_map.Outcome.TheVariants as outcome
 use Rattle.rounds.specs.Plans.{told_outcome}
 use Rattle.rounds.specs.Replays.{known, AfterReplay, after_replay, replay_call, ReplayScratch, Replayed}
-use Rattle.rounds.proofs.ReplayTurns.{replay_unknown, replay_short, replay-refused, replay-run}
+use Rattle.rounds.proofs.ReplayTurns.{replay_unknown, replay_short, replay_refused, replay_run}
 use Rattle.rounds.proofs.ReplayLaws.{replay_ledger}
 use Rattle.rounds.proofs.replays.replay.Goals as goal
 use Rattle.rounds.proofs.replays.replay.Goals.{Else-not-all_known, Start}
@@ -46,13 +46,13 @@ returns-then-answers-calls c =
 pub returns-in-Refused : goal.returns-in-Refused
 returns-in-Refused c =
     let both = clauses (goal.at.returns-in-Refused c).Start (outcome.Refused _) _ _ _ _ _ _
-    (replay-refused _ _ _ _ _ _ _ _ _ _ (all (goal.at.returns-in-Refused c).Else-not-all_known) c.if-answers-calls.false c.«open».result _ c.«open».ensures _ c.in-Refused.is)
+    (replay_refused _ _ _ _ _ _ _ _ _ _ (all (goal.at.returns-in-Refused c).Else-not-all_known) c.if-answers-calls.false c.«open».result _ c.«open».ensures _ c.in-Refused.is)
     refl in
     record { terminals_after = both.0; replayed = both.1.0; replay_scratch = both.1.1 }
 
 pub returns-in-Made : goal.returns-in-Made
 returns-in-Made c =
     let both = clauses (goal.at.returns-in-Made c).Start outcome.Done _ _ _ _ _ c.run.new.scratch
-    (replay-run _ _ _ _ _ _ _ _ _ _ (all (goal.at.returns-in-Made c).Else-not-all_known) c.if-answers-calls.false c.«open».result _ c.«open».ensures _ _ _ _ _ _ c.in-Made.is c.run.ensures.terminals_after)
+    (replay_run _ _ _ _ _ _ _ _ _ _ (all (goal.at.returns-in-Made c).Else-not-all_known) c.if-answers-calls.false c.«open».result _ c.«open».ensures _ _ _ _ _ _ c.in-Made.is c.run.ensures.terminals_after)
     c.run.ensures.scratch_run in
     record { terminals_after = both.0; replayed = both.1.0; replay_scratch = both.1.1 }

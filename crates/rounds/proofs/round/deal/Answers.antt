@@ -5,7 +5,7 @@ use Prim.Native.Nat.{◌<◌}
 use native.Mathlib.Omega.{arith}
 use lib.ListN.{length, get_or}
 use Rattle.rounds.specs.InnerRounds.{dealt_to}
-use Rattle.rounds.proofs.DealLaws.{slot_lent, dealt_start, dealt_lengths, dealt_done, dealt-room, dealt-yes, dealt-no}
+use Rattle.rounds.proofs.DealLaws.{slot_lent, dealt_start, dealt_lengths, dealt_done, dealt_room, dealt_yes, dealt_no}
 use Rattle.rounds.proofs.round.deal.Goals as goal
 use Rattle.rounds.proofs.round.deal.Goals.{After-terminal-s, At-loop-i, Then-x-n}
 
@@ -20,7 +20,7 @@ long c =
 room : (c : Then-x-n)
     → (c.loop-i.p < length c.args.locations.now) × (c.loop-i.p < length c.args.terminals.now)
 room c =
-    dealt-room _ c.args.r _ _ _ c.requires _ _ _ _ c.loop-i.invariant.1 c.loop-i-test.true c.if-x-n.true
+    dealt_room _ c.args.r _ _ _ c.requires _ _ _ _ c.loop-i.invariant.1 c.loop-i-test.true c.if-x-n.true
 
 pub loop-i-init : goal.loop-i-init
 loop-i-init c = (omega arith, dealt_start _ _ _ _ _, refl)
@@ -52,13 +52,13 @@ found c =
 pub loop-i-preserved-then-x-n : goal.loop-i-preserved-then-x-n
 loop-i-preserved-then-x-n c =
     let v = c.loop-i.invariant in
-    let more = dealt-yes _ c.args.r _ _ _ c.requires _ _ _ _ v.1 c.loop-i-test.true c.if-x-n.true _ (found (goal.at.loop-i-preserved-then-x-n c).After-terminal-s) in
+    let more = dealt_yes _ c.args.r _ _ _ c.requires _ _ _ _ v.1 c.loop-i-test.true c.if-x-n.true _ (found (goal.at.loop-i-preserved-then-x-n c).After-terminal-s) in
     (omega arith, more, c.terminal-s.auto.scratch ∙ v.2)
 
 pub loop-i-preserved : goal.loop-i-preserved
 loop-i-preserved c =
     let v = c.loop-i.invariant in
-    (omega arith, dealt-no _ c.args.r _ _ _ c.requires _ _ _ _ v.1 c.loop-i-test.true c.if-x-n.false, v.2)
+    (omega arith, dealt_no _ c.args.r _ _ _ c.requires _ _ _ _ v.1 c.loop-i-test.true c.if-x-n.false, v.2)
 
 pub shape_of-locations : goal.shape_of-locations
 shape_of-locations c = (long (goal.at.shape_of-locations c).At-loop-i).0

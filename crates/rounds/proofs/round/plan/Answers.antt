@@ -5,7 +5,7 @@ use Prim.Native.Nat.{◌≤◌, min}
 use native.Mathlib.Omega.{arith}
 use lib.ListN.{length}
 use Rattle.choosers.specs.SlotCalls.{slot_limit}
-use Rattle.rounds.proofs.PlanCodeLaws.{Ready, is_ready, is_unfit, plan_unfit, few-locations, few-terminals, few-places, deal_room, plan_none, plan-done}
+use Rattle.rounds.proofs.PlanCodeLaws.{Ready, is_ready, is_unfit, plan_unfit, few_locations, few_terminals, few_places, deal_room, plan_none, plan_done}
 use Rattle.rounds.proofs.round.plan.Goals as goal
 use Rattle.rounds.proofs.round.plan.Goals.{In-Is, Else-scratch-scratch_places}
 
@@ -19,21 +19,21 @@ enough c = omega (arith, c.scratch_places.ensures)
 
 pub returns-then-locations-k : goal.returns-then-locations-k
 returns-then-locations-k c = record {
-  terminals_after = few-locations _ _ _ _ _ _ _ (ready (goal.at.returns-then-locations-k c).In-Is) c.if-locations-k.true;
+  terminals_after = few_locations _ _ _ _ _ _ _ (ready (goal.at.returns-then-locations-k c).In-Is) c.if-locations-k.true;
   scratch_after = refl;
 }
 
 pub returns-then-terminals-k : goal.returns-then-terminals-k
 returns-then-terminals-k c =
     record {
-      terminals_after = few-terminals _ _ _ _ _ _ _ (ready (goal.at.returns-then-terminals-k c).In-Is) c.if-locations-k.false c.if-terminals-k.true;
+      terminals_after = few_terminals _ _ _ _ _ _ _ (ready (goal.at.returns-then-terminals-k c).In-Is) c.if-locations-k.false c.if-terminals-k.true;
       scratch_after = refl;
     }
 
 pub returns-then-scratch-scratch_places : goal.returns-then-scratch-scratch_places
 returns-then-scratch-scratch_places c =
     record {
-      terminals_after = few-places _ _ _ _ _ _ _ (ready (goal.at.returns-then-scratch-scratch_places c).In-Is) c.if-locations-k.false c.if-terminals-k.false (omega (arith, c.scratch_places.ensures));
+      terminals_after = few_places _ _ _ _ _ _ _ (ready (goal.at.returns-then-scratch-scratch_places c).In-Is) c.if-locations-k.false c.if-terminals-k.false (omega (arith, c.scratch_places.ensures));
       scratch_after = refl;
     }
 
@@ -59,6 +59,6 @@ returns-in-Refused c =
 pub returns-else-idle : goal.returns-else-idle
 returns-else-idle c =
     record {
-      terminals_after = plan-done _ _ _ _ _ _ _ (ready (goal.at.returns-else-idle c).In-Is) c.if-locations-k.false c.if-terminals-k.false (enough (goal.at.returns-else-idle c).Else-scratch-scratch_places) c.if-idle.false _ _ (c.deal.ensures.locations_after, c.deal.ensures.terminals_after);
+      terminals_after = plan_done _ _ _ _ _ _ _ (ready (goal.at.returns-else-idle c).In-Is) c.if-locations-k.false c.if-terminals-k.false (enough (goal.at.returns-else-idle c).Else-scratch-scratch_places) c.if-idle.false _ _ (c.deal.ensures.locations_after, c.deal.ensures.terminals_after);
       scratch_after = c.deal.auto.scratch;
     }

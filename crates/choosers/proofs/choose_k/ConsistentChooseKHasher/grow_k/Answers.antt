@@ -5,8 +5,8 @@ use mathlib.Core.Bool.{true}
 use native.Mathlib.Omega.{arith}
 use borrow.Author.Rules.{rules}
 use Rattle.choosers.specs.ChooserCalls.{placed, fitting, grow_call}
-use Rattle.choosers.proofs.CheckLaws.{fits_parts, samples-within}
-use Rattle.choosers.proofs.ChooserCallLaws.{tested_unfit, tested_above, grow-full, grow_short, grow_done}
+use Rattle.choosers.proofs.CheckLaws.{fits_parts, samples_within}
+use Rattle.choosers.proofs.ChooserCallLaws.{tested_unfit, tested_above, grow_full, grow_short, grow_done}
 use Rattle.choosers.proofs.ConsistentLaws.{grow_both}
 use Rattle.choosers.proofs.choose_k.ConsistentChooseKHasher.grow_k.Goals as goal
 use Rattle.choosers.proofs.choose_k.ConsistentChooseKHasher.grow_k.Goals.{Else-not-fits}
@@ -31,7 +31,7 @@ returns-then-n-gt-N_LIMIT c =
 pub returns-then-k-n : goal.returns-then-k-n
 returns-then-k-n c =
     let a = c.args in
-    let both = grow_both a.self a.list.now _ (ap (λ p. placed p a.list.now) c.refuse-then-k-n.ensures ∙ grow-full a.self a.list.now (ok (goal.at.returns-then-k-n c).Else-not-fits) (search rules) (search rules)) in
+    let both = grow_both a.self a.list.now _ (ap (λ p. placed p a.list.now) c.refuse-then-k-n.ensures ∙ grow_full a.self a.list.now (ok (goal.at.returns-then-k-n c).Else-not-fits) (search rules) (search rules)) in
     record { list_after = both.0; consistent = both.1 }
 
 pub overflow_add-k : goal.overflow_add-k
@@ -47,7 +47,7 @@ pub grow-i-requires : goal.grow-i-requires
 grow-i-requires c =
     let a = c.args in
     let p = fits_parts a.self a.list.now (ok (goal.at.grow-i-requires c).Else-not-fits) in
-    (omega arith, omega (arith, p.few), search rules, samples-within a.self a.list.now p (search rules))
+    (omega arith, omega (arith, p.few), search rules, samples_within a.self a.list.now p (search rules))
 
 pub returns : goal.returns
 returns c =

@@ -1,21 +1,21 @@
 -- `choosers::choose_k::ConsistentChooseKHasher::new_with_k` meets its contract.
 -- Assumes nothing.
 use borrow.Author.Tests.{lt-ltb, le-ltb}
-use Rattle.choosers.specs.ChooserCalls.{new_with_kCall}
+use Rattle.choosers.specs.ChooserCalls.{new_with_k_call}
 use Rattle.choosers.proofs.choose_k.ConsistentChooseKHasher.new_with_k.Goals as goal
 
 pub returns-then-n-gt-N_LIMIT : goal.returns-then-n-gt-N_LIMIT
-unfolding new_with_kCall
+unfolding new_with_k_call
 returns-then-n-gt-N_LIMIT c = rw (lt-ltb _ _ c.if-n-gt-N_LIMIT.true)
 
 pub returns-then-n-k : goal.returns-then-n-k
-unfolding new_with_kCall
+unfolding new_with_k_call
 returns-then-n-k c = rw (le-ltb _ _ c.if-n-gt-N_LIMIT.false, lt-ltb _ _ c.if-n-k.true)
 
 pub returns-then-list-k : goal.returns-then-list-k
-unfolding new_with_kCall
+unfolding new_with_k_call
 returns-then-list-k c = rw (le-ltb _ _ c.if-n-gt-N_LIMIT.false, le-ltb _ _ c.if-n-k.false, lt-ltb _ _ c.if-list-k.true)
 
 pub returns : goal.returns
-unfolding new_with_kCall
+unfolding new_with_k_call
 returns c = simp (c.choose.ensures, le-ltb _ _ c.if-n-gt-N_LIMIT.false, le-ltb _ _ c.if-n-k.false, le-ltb _ _ c.if-list-k.false)

@@ -5,8 +5,8 @@ use mathlib.Core.Bool.{true}
 use native.Mathlib.Omega.{arith}
 use borrow.Author.Rules.{rules}
 use Rattle.choosers.specs.ChooserCalls.{drawn, fitting, next_call}
-use Rattle.choosers.proofs.CheckLaws.{fits_parts, samples-within}
-use Rattle.choosers.proofs.ChooserCallLaws.{tested_unfit, tested_above, next-full, next_short, next-done, index-within}
+use Rattle.choosers.proofs.CheckLaws.{fits_parts, samples_within}
+use Rattle.choosers.proofs.ChooserCallLaws.{tested_unfit, tested_above, next_full, next_short, next_done, index_within}
 use Rattle.choosers.proofs.ConsistentLaws.{next_both}
 use Rattle.choosers.proofs.choose_k.ConsistentChooseKHasher.next.Goals as goal
 use Rattle.choosers.proofs.choose_k.ConsistentChooseKHasher.next.Goals.{Else-not-fits}
@@ -31,7 +31,7 @@ returns-then-n-gt-N_LIMIT c =
 pub returns-then-k-n : goal.returns-then-k-n
 returns-then-k-n c =
     let a = c.args in
-    let both = next_both a.self a.list.now _ (next-full a.self a.list.now (ok (goal.at.returns-then-k-n c).Else-not-fits) (search rules) (search rules)) in
+    let both = next_both a.self a.list.now _ (next_full a.self a.list.now (ok (goal.at.returns-then-k-n c).Else-not-fits) (search rules) (search rules)) in
     record { list_after = both.0; consistent_next = both.1 }
 
 pub overflow_add-k : goal.overflow_add-k
@@ -47,20 +47,20 @@ pub grow-i-requires : goal.grow-i-requires
 grow-i-requires c =
     let a = c.args in
     let p = fits_parts a.self a.list.now (ok (goal.at.grow-i-requires c).Else-not-fits) in
-    (omega arith, omega (arith, p.few), search rules, samples-within a.self a.list.now p (search rules))
+    (omega arith, omega (arith, p.few), search rules, samples_within a.self a.list.now p (search rules))
 
 pub offset_bounds-list-i : goal.offset_bounds-list-i
 offset_bounds-list-i c =
     let a = c.args in
-    record { fits = omega (arith, index-within a.self a.list.now (ok (goal.at.offset_bounds-list-i c).Else-not-fits) (search rules) (search rules) (search rules) _ _ c.grow-i.ensures) }
+    record { fits = omega (arith, index_within a.self a.list.now (ok (goal.at.offset_bounds-list-i c).Else-not-fits) (search rules) (search rules) (search rules) _ _ c.grow-i.ensures) }
 
 pub bounds-list-i : goal.bounds-list-i
 bounds-list-i c =
     let a = c.args in
-    omega (arith, c.grow-i.auto.list, index-within a.self a.list.now (ok (goal.at.bounds-list-i c).Else-not-fits) (search rules) (search rules) (search rules) _ _ c.grow-i.ensures)
+    omega (arith, c.grow-i.auto.list, index_within a.self a.list.now (ok (goal.at.bounds-list-i c).Else-not-fits) (search rules) (search rules) (search rules) _ _ c.grow-i.ensures)
 
 pub returns : goal.returns
 returns c =
     let a = c.args in
-    let both = next_both a.self a.list.now _ (next-done a.self a.list.now (ok (goal.at.returns c).Else-not-fits) (search rules) (search rules) (search rules) _ _ c.grow-i.ensures) in
+    let both = next_both a.self a.list.now _ (next_done a.self a.list.now (ok (goal.at.returns c).Else-not-fits) (search rules) (search rules) (search rules) _ _ c.grow-i.ensures) in
     record { list_after = both.0; consistent_next = both.1 }

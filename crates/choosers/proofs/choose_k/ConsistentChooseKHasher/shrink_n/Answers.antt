@@ -6,8 +6,8 @@ use Prim.Native.Nat.{◌-◌}
 use native.Mathlib.Omega.{arith}
 use borrow.Author.Rules.{rules}
 use Rattle.choosers.specs.ChooserCalls.{placed, fitting, shrink_call}
-use Rattle.choosers.proofs.CheckLaws.{fits_parts, sample-below, samples-within}
-use Rattle.choosers.proofs.ChooserCallLaws.{tested_unfit, tested_above, shrink-none, shrink-all, shrink-low, shrink-done}
+use Rattle.choosers.proofs.CheckLaws.{fits_parts, sample_below, samples_within}
+use Rattle.choosers.proofs.ChooserCallLaws.{tested_unfit, tested_above, shrink_none, shrink_all, shrink_low, shrink_done}
 use Rattle.choosers.proofs.ConsistentLaws.{shrink_both}
 use Rattle.choosers.proofs.choose_k.ConsistentChooseKHasher.shrink_n.Goals as goal
 use Rattle.choosers.proofs.choose_k.ConsistentChooseKHasher.shrink_n.Goals.{Else-not-fits}
@@ -31,13 +31,13 @@ returns-then-n-gt-N_LIMIT c =
 pub returns-then-k-eq0 : goal.returns-then-k-eq0
 returns-then-k-eq0 c =
     let a = c.args in
-    let both = shrink_both a.self a.list.now _ (ap (λ p. placed p a.list.now) c.refuse-then-k-eq0.ensures ∙ shrink-none a.self a.list.now (ok (goal.at.returns-then-k-eq0 c).Else-not-fits) (search rules) (search rules)) in
+    let both = shrink_both a.self a.list.now _ (ap (λ p. placed p a.list.now) c.refuse-then-k-eq0.ensures ∙ shrink_none a.self a.list.now (ok (goal.at.returns-then-k-eq0 c).Else-not-fits) (search rules) (search rules)) in
     record { list_after = both.0; consistent = both.1 }
 
 pub returns-then-n-k : goal.returns-then-n-k
 returns-then-n-k c =
     let a = c.args in
-    let both = shrink_both a.self a.list.now _ (ap (λ p. placed p a.list.now) c.refuse-then-n-k.ensures ∙ shrink-all a.self a.list.now (ok (goal.at.returns-then-n-k c).Else-not-fits) (search rules) (search rules) (search rules)) in
+    let both = shrink_both a.self a.list.now _ (ap (λ p. placed p a.list.now) c.refuse-then-n-k.ensures ∙ shrink_all a.self a.list.now (ok (goal.at.returns-then-n-k c).Else-not-fits) (search rules) (search rules) (search rules)) in
     record { list_after = both.0; consistent = both.1 }
 
 pub offset_bounds-list-k : goal.offset_bounds-list-k
@@ -53,17 +53,17 @@ bounds-list-k c =
 pub returns-then-last-k : goal.returns-then-last-k
 returns-then-last-k c =
     let a = c.args in
-    let both = shrink_both a.self a.list.now _ (ap (λ p. placed p a.list.now) c.refuse-then-last-k.ensures ∙ shrink-low a.self a.list.now (ok (goal.at.returns-then-last-k c).Else-not-fits) (search rules) (search rules) (search rules) (search rules)) in
+    let both = shrink_both a.self a.list.now _ (ap (λ p. placed p a.list.now) c.refuse-then-last-k.ensures ∙ shrink_low a.self a.list.now (ok (goal.at.returns-then-last-k c).Else-not-fits) (search rules) (search rules) (search rules) (search rules)) in
     record { list_after = both.0; consistent = both.1 }
 
 pub lower-i-requires : goal.lower-i-requires
 lower-i-requires c =
     let a = c.args in
     let p = fits_parts a.self a.list.now (ok (goal.at.lower-i-requires c).Else-not-fits) in
-    (p.within, search rules, omega (arith, sample-below a.self a.list.now p (a.self.k - 1) (omega arith)), samples-within a.self a.list.now p (search rules))
+    (p.within, search rules, omega (arith, sample_below a.self a.list.now p (a.self.k - 1) (omega arith)), samples_within a.self a.list.now p (search rules))
 
 pub returns : goal.returns
 returns c =
     let a = c.args in
-    let both = shrink_both a.self a.list.now _ (shrink-done a.self a.list.now (ok (goal.at.returns c).Else-not-fits) (search rules) (search rules) (search rules) _ _ (search rules) c.lower-i.ensures) in
+    let both = shrink_both a.self a.list.now _ (shrink_done a.self a.list.now (ok (goal.at.returns c).Else-not-fits) (search rules) (search rules) (search rules) _ _ (search rules) c.lower-i.ensures) in
     record { list_after = both.0; consistent = both.1 }

@@ -4,7 +4,7 @@ use mathlib.Core.Path.{◌≡◌, sym, ◌∙◌}
 use mathlib.Core.Bool.{true}
 use native.Mathlib.Omega.{arith}
 use Rattle.choosers.specs.SlotCalls.{fitting}
-use Rattle.choosers.proofs.SlotCallLaws.{fits_parts, add_unfit, add-vacant, add-full, add-limit, add-new}
+use Rattle.choosers.proofs.SlotCallLaws.{fits_parts, add_unfit, add_vacant, add_full, add_limit, add_new}
 use Rattle.choosers.proofs.node_map.ConsistentNodeMap.add.Goals as goal
 use Rattle.choosers.proofs.node_map.ConsistentNodeMap.add.Goals.{Else-not-fits}
 
@@ -22,15 +22,15 @@ bounds-table-x c = omega (arith, (fits_parts _ _ (ok (goal.at.bounds-table-x c).
 
 pub returns-then-x-end : goal.returns-then-x-end
 returns-then-x-end c =
-    sym (add-vacant _ _ (ok (goal.at.returns-then-x-end c).Else-not-fits) _ c.lowest-x.ensures c.if-x-end.true)
+    sym (add_vacant _ _ (ok (goal.at.returns-then-x-end c).Else-not-fits) _ c.lowest-x.ensures c.if-x-end.true)
 
 pub returns-then-end-table : goal.returns-then-end-table
 returns-then-end-table c =
-    rw c.refuse-then-end-table.ensures (sym (add-full _ _ (ok (goal.at.returns-then-end-table c).Else-not-fits) _ c.lowest-x.ensures c.if-x-end.false c.if-end-table.true))
+    rw c.refuse-then-end-table.ensures (sym (add_full _ _ (ok (goal.at.returns-then-end-table c).Else-not-fits) _ c.lowest-x.ensures c.if-x-end.false c.if-end-table.true))
 
 pub returns-then-c-eq-SLOT_LIMIT : goal.returns-then-c-eq-SLOT_LIMIT
 returns-then-c-eq-SLOT_LIMIT c =
-    rw c.refuse-then-c-eq-SLOT_LIMIT.ensures (sym (add-limit _ _ (ok (goal.at.returns-then-c-eq-SLOT_LIMIT c).Else-not-fits) _ c.lowest-x.ensures c.if-x-end.false c.if-end-table.false c.if-c-eq-SLOT_LIMIT.true))
+    rw c.refuse-then-c-eq-SLOT_LIMIT.ensures (sym (add_limit _ _ (ok (goal.at.returns-then-c-eq-SLOT_LIMIT c).Else-not-fits) _ c.lowest-x.ensures c.if-x-end.false c.if-end-table.false c.if-c-eq-SLOT_LIMIT.true))
 
 pub bounds-table-end : goal.bounds-table-end
 bounds-table-end c =
@@ -42,4 +42,4 @@ overflow_add-result c =
 
 pub returns : goal.returns
 returns c =
-    sym (add-new _ _ (ok (goal.at.returns c).Else-not-fits) _ c.lowest-x.ensures c.if-x-end.false c.if-end-table.false c.if-c-eq-SLOT_LIMIT.false)
+    sym (add_new _ _ (ok (goal.at.returns c).Else-not-fits) _ c.lowest-x.ensures c.if-x-end.false c.if-end-table.false c.if-c-eq-SLOT_LIMIT.false)

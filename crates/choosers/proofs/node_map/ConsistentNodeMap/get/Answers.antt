@@ -7,7 +7,7 @@ use native.Mathlib.Omega.{arith}
 use lib.ListN.{length}
 use Rattle.choosers.specs.SlotCalls.{slot_limit, fitting, told_looked}
 use Rattle.choosers.proofs.SlotCallLaws.{fits_parts}
-use Rattle.choosers.proofs.GetLaws.{get_unfit, get-short, get_none, get-found, get-some}
+use Rattle.choosers.proofs.GetLaws.{get_unfit, get_short, get_none, get_found, get_some}
 use Rattle.choosers.proofs.node_map.ConsistentNodeMap.get.Goals as goal
 use Rattle.choosers.proofs.node_map.ConsistentNodeMap.get.Goals.{Else-not-fits, Else-scratch-places}
 
@@ -26,7 +26,7 @@ returns-then-not-fits c = record {
 
 pub returns-then-scratch-places : goal.returns-then-scratch-places
 returns-then-scratch-places c = record {
-  result_value = sym (get-short _ _ _ _ (ok (goal.at.returns-then-scratch-places c).Else-not-fits) (omega (arith, c.places.ensures)));
+  result_value = sym (get_short _ _ _ _ (ok (goal.at.returns-then-scratch-places c).Else-not-fits) (omega (arith, c.places.ensures)));
   scratch_after = refl;
 }
 
@@ -43,7 +43,7 @@ returns-then-not-any c =
 pub returns-in-Found : goal.returns-in-Found
 returns-in-Found c =
     record {
-      result_value = sym (get-found _ _ _ _ (ok (goal.at.returns-in-Found c).Else-not-fits) (enough (goal.at.returns-in-Found c).Else-scratch-places) c.in-Found.x (sym c.first_active.ensures ∙ ap told_looked c.in-Found.is));
+      result_value = sym (get_found _ _ _ _ (ok (goal.at.returns-in-Found c).Else-not-fits) (enough (goal.at.returns-in-Found c).Else-scratch-places) c.in-Found.x (sym c.first_active.ensures ∙ ap told_looked c.in-Found.is));
       scratch_after = c.first_active.auto.scratch;
     }
 
@@ -51,4 +51,4 @@ returns-in-Found c =
 pub returns-in-Missing : goal.returns-in-Missing
 returns-in-Missing c =
     let one = sym (c.if-not-any.false) ∙ c.any.ensures in
-    absurd (get-some _ _ _ _ (ok (goal.at.returns-in-Missing c).Else-not-fits) (enough (goal.at.returns-in-Missing c).Else-scratch-places) one (sym c.first_active.ensures ∙ ap told_looked c.in-Missing.is))
+    absurd (get_some _ _ _ _ (ok (goal.at.returns-in-Missing c).Else-not-fits) (enough (goal.at.returns-in-Missing c).Else-scratch-places) one (sym c.first_active.ensures ∙ ap told_looked c.in-Missing.is))
