@@ -1,0 +1,53 @@
+// The fifteen layers by their numbers, 0 to 14.
+ghost use Rattle.std.specs.Prelude.{◌≡◌, ◌^◌, ◌<◌, ◌≤◌};
+ghost use Rattle.layers.specs.Layer.{size, layer};
+ghost use Rattle.orders.specs.Orders.{layer_of};
+
+use layers::Applied;
+
+#[derive(Clone, Copy)]
+pub(crate) struct Layer {
+    pub(crate) number: u32,
+    ghost below: { number < 15 },
+}
+
+impl Layer {
+    // The layer of n.
+    pub(crate) fn of(n: u32) -> Self
+        requires { n ≤ 1073741824 }
+        ensures { result.number ≡ layer_of n }
+    {
+        if n <= 1 {
+            return Layer { number: 0 };
+        }
+        Layer {
+            number: (31 - (n - 1).leading_zeros()) / 2,
+        }
+    }
+
+    // How many inputs it has, and outputs.
+    pub(crate) fn size(self) -> u32
+        ensures { result ≡ size self.number }
+    {
+        4 << (2 * self.number)
+    }
+
+    // Outputs below this have top bits 00.
+    pub(crate) fn quarter(self) -> u32
+        ensures { result ≡ 4 ^ self.number }
+    {
+        1 << (2 * self.number)
+    }
+
+    // The output of one input: to make a record of the layer for it costs more.
+    pub(crate) fn output(self, key: u64, x: u32) -> u32
+        requires { x < size self.number }
+        ensures { result ≡ layer self.number key x }
+    {
+        match layers::layer_apply(self.number, key, x) {
+            Applied::Output(y) => y,
+            // Not reached.
+            Applied::Refused(c) => c,
+        }
+    }
+}
