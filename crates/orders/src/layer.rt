@@ -1,5 +1,5 @@
 // The fifteen layers by their numbers, 0 to 14.
-ghost use Rattle.std.specs.Prelude.{◌≡◌, ◌^◌, ◌<◌, ◌≤◌};
+ghost use Rattle.std.specs.Prelude.{◌≡◌, ◌^◌, ◌<◌, ◌≤◌, MatchOption};
 ghost use Rattle.layers.specs.Layer.{size, layer};
 ghost use Rattle.orders.specs.Orders.{layer_of};
 
@@ -12,6 +12,17 @@ pub(crate) struct Layer {
 }
 
 impl Layer {
+    // The layer of that number, if there is one.
+    pub(crate) fn new(number: u32) -> Option<Self>
+        ensures { MatchOption result (15 ≤ number) (λ j. j.number ≡ number) }
+    {
+        if number < 15 {
+            Some(Layer { number })
+        } else {
+            None
+        }
+    }
+
     // The layer of n.
     pub(crate) fn of(n: u32) -> Self
         requires { n ≤ 1073741824 }
@@ -46,8 +57,7 @@ impl Layer {
     {
         match layers::layer_apply(self.number, key, x) {
             Applied::Output(y) => y,
-            // Not reached.
-            Applied::Refused(c) => c,
+            Applied::Refused(_) => unreachable!(),
         }
     }
 }

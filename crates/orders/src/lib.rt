@@ -7,5 +7,5 @@ pub mod consistent_reservoir;
 mod counters;
 mod fills;
 mod layer;
+mod outputs;
 mod scans;
-mod steps;

@@ -49,9 +49,9 @@ returns-then-quarter-y c =
     let y = c.in-Some.y in
     let is : top_step o j w ≡ step (says (some y)) (order_of (key_of o) o.n (set o.counters j w.input)) =
     elim c.then-quarter-y.branch [
-      then-quarter-y-via-then-quarter-y b ↦ top_high o j y w c.in-Some.is (omega (arith, c.quarter.ensures, b.if-quarter-y.true))
-    | then-quarter-y-via-else-quarter-y+then-j-eq0 b ↦
-        top_zero o j y w c.in-Some.is (omega (arith, c.quarter.ensures, b.if-quarter-y.false)) ∙ zero_zero o j _ _ b.if-j-eq0.true
+      | then-quarter-y-via-then-quarter-y b ↦ top_high o j y w c.in-Some.is (omega (arith, c.quarter.ensures, b.if-quarter-y.true))
+      | then-quarter-y-via-else-quarter-y+then-j-eq0 b ↦
+          top_zero o j y w c.in-Some.is (omega (arith, c.quarter.ensures, b.if-quarter-y.false)) ∙ zero_zero o j _ _ b.if-j-eq0.true
     ] in
     ap (λ (ds : List ℕ). step (says (some y)) (order_of (key_of o) o.n ds)) c.set_counter-then-quarter-y.ensures
     ∙ sym (top (goal.at.returns-then-quarter-y c).After-walk-w ∙ is)

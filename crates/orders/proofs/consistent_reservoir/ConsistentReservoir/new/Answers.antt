@@ -1,12 +1,17 @@
 -- `orders::consistent_reservoir::ConsistentReservoir::new` meets its contract.
 -- Assumes nothing.
+use mathlib.Core.Path.{◌≡◌}
 use Prim.Native.Nat.{◌^◌}
 use native.Mathlib.Omega.{arith}
 use borrow.Author.Tests.{lt-ltb, le-ltb, eq-eqb, ne_eqb}
 use Rattle.orders.specs.ReservoirCalls.{open_call}
-use Rattle.orders.proofs.LogLaws.{layer_in}
-use Rattle.orders.proofs.OpenLaws.{open_few, open_layer, open_fit, open_refused, open_done}
+use Rattle.orders.specs.InnerPasses.{scan_of}
+use Rattle.orders.proofs.OpenLaws.{open_few, open_fit, open_refused, open_done}
 use Rattle.orders.proofs.consistent_reservoir.ConsistentReservoir.new.Goals as goal
+use Rattle.orders.proofs.consistent_reservoir.ConsistentReservoir.new.Goals.{After-scan-used}
+
+scan_is : (c : After-scan-used) → c.scan-used.result ≡ scan_of c.args.key c.of-layer.result.number c.args.n c.args.k
+scan_is c = rw (c.new.ensures.layer, c.new.ensures.key) at c.scan-used.ensures
 
 pub returns-then-n-gt-N_LIMIT : goal.returns-then-n-gt-N_LIMIT
 unfolding open_call
@@ -31,30 +36,17 @@ returns-then-list-k c =
     let a = c.args in
     open_few a.key a.k a.n a.list.now (omega arith) c.if-k-eq0.false (omega arith) (omega arith)
 
-pub scan_below-s-requires : goal.scan_below-s-requires
-scan_below-s-requires c =
-    let a = c.args in
-    omega (arith, c.layer_of-j.ensures, layer_in a.n (omega arith))
-
 pub returns-then-list-used : goal.returns-then-list-used
 returns-then-list-used c =
     let a = c.args in
-    open_refused a.key a.k a.n a.list.now (omega arith) c.if-k-eq0.false (omega arith) _ c.layer_of-j.ensures _ c.scan_below-s.ensures (omega arith)
+    open_refused a.key a.k a.n a.list.now (omega arith) c.if-k-eq0.false (omega arith) _ c.of-layer.ensures _ (scan_is (goal.at.returns-then-list-used c).After-scan-used) (omega arith)
 
-pub overflow_add-j : goal.overflow_add-j
-overflow_add-j c =
+pub lay-requires-clause-size : goal.lay-requires-clause-size
+lay-requires-clause-size c =
     let a = c.args in
-    omega (arith, c.layer_of-j.ensures, layer_in a.n (omega arith))
-
-pub lay-requires : goal.lay-requires
-lay-requires c =
-    let a = c.args in (
-      omega (arith, open_layer a.key a.k a.n a.list.now (omega arith) c.if-k-eq0.false (omega arith) _ c.layer_of-j.ensures _ c.scan_below-s.ensures),
-      open_fit a.key a.k a.n a.list.now (omega arith) c.if-k-eq0.false (omega arith) _ c.layer_of-j.ensures _ c.scan_below-s.ensures,
-      omega arith,
-    )
+    open_fit a.key a.k a.n a.list.now (omega arith) c.if-k-eq0.false (omega arith) _ c.of-layer.ensures _ (scan_is (goal.at.lay-requires-clause-size c).After-scan-used)
 
 pub returns : goal.returns
 returns c =
     let a = c.args in
-    rw c.lay.ensures (open_done a.key a.k a.n a.list.now (omega arith) c.if-k-eq0.false (omega arith) _ c.layer_of-j.ensures _ c.scan_below-s.ensures (omega arith))
+    rw c.lay.ensures (open_done a.key a.k a.n a.list.now (omega arith) c.if-k-eq0.false (omega arith) _ c.of-layer.ensures _ (scan_is (goal.at.returns c).After-scan-used) (omega arith))
