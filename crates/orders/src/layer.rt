@@ -3,8 +3,6 @@ ghost use Rattle.std.specs.Prelude.{◌≡◌, ◌^◌, ◌<◌, ◌≤◌, Matc
 ghost use Rattle.layers.specs.Layer.{size, layer};
 ghost use Rattle.orders.specs.Orders.{layer_of};
 
-use layers::Applied;
-
 #[derive(Clone, Copy)]
 pub(crate) struct Layer {
     pub(crate) number: u32,
@@ -55,9 +53,6 @@ impl Layer {
         requires { x < size self.number }
         ensures { result ≡ layer self.number key x }
     {
-        match layers::layer_apply(self.number, key, x) {
-            Applied::Output(y) => y,
-            Applied::Refused(_) => unreachable!(),
-        }
+        layers::layer_apply(self.number, key, x).unwrap()
     }
 }

@@ -4,7 +4,7 @@ ghost use Rattle.layers.specs.Layer.{layer};
 ghost use Rattle.layers.specs.KeyedLayers.{keyed_layer};
 
 use crate::layer::Layer;
-use layers::{Keyed, KeyedLayer};
+use layers::KeyedLayer;
 
 #[derive(Clone, Copy)]
 pub(crate) struct Outputs {
@@ -19,10 +19,8 @@ impl Outputs {
         ensures layer { result.layer.number ≡ layer.number }
         ensures key { result.key ≡ key }
     {
-        match KeyedLayer::new(layer.number, key) {
-            Keyed::Made(keyed) => Outputs { layer, key, keyed },
-            Keyed::Refused(_) => unreachable!(),
-        }
+        let keyed = KeyedLayer::new(layer.number, key).unwrap();
+        Outputs { layer, key, keyed }
     }
 
     // The output of an input.

@@ -1,16 +1,19 @@
 -- `orders::layer::Layer::output` meets its contract.
 -- Assumes nothing.
-use mathlib.Core.Path.{ap}
-use Rattle.layers.specs.Calls.{told}
-use Rattle.orders.proofs.ScanLaws.{output_made, output_not}
+use Rattle.std.proofs.Common.{◌≡◌, Ok, ◌∙◌, ap, arith, is_ok}
+use Rattle.answers.proofs.Tolds.{told_ok}
+use Rattle.layers.specs.Layer.{layer}
+use Rattle.layers.proofs.CallLaws.{apply_in}
 use Rattle.orders.proofs.layer.Layer.output.Goals as goal
+use Rattle.orders.proofs.layer.Layer.output.Goals.{After-layer_apply}
 
-pub unreachable-requires : goal.unreachable-requires
-unreachable-requires c =
-    let s = c.args.self in
-    output_not s.number _ _ _ _ s.below c.requires c.layer_apply.ensures (ap told c.in-Refused.is)
+applied : (c : After-layer_apply) → c.layer_apply.result ≡ Ok (layer c.args.self.number c.args.key c.args.x)
+applied c =
+    let a = c.args in
+    told_ok _ _ (c.layer_apply.ensures ∙ apply_in a.self.number a.key a.x (omega (arith, a.self.below)) c.requires)
+
+pub unwrap-requires : goal.unwrap-requires
+unwrap-requires c = ap is_ok (applied (goal.at.unwrap-requires c).After-layer_apply)
 
 pub returns : goal.returns
-returns c =
-    let s = c.args.self in
-    output_made s.number _ _ _ _ s.below c.requires c.layer_apply.ensures (ap told c.in-Output.is)
+returns c = let e = c.unwrap.ensures in let f = applied (goal.at.returns c).After-layer_apply in cc
