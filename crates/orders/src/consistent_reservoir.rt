@@ -59,7 +59,7 @@ impl ConsistentReservoir {
         if list.len() < (used as usize) {
             return Err(Refusal::ShortMemory);
         }
-        fills::lay(layer.number + 1, key, used, list);
+        fills::lay(layer.number + 1, key, &mut list[..used as usize]);
         Ok(ConsistentReservoir {
             master_key: key,
             k,
@@ -141,7 +141,7 @@ impl ConsistentReservoir {
             return Err(Refusal::ShortMemory);
         }
         let leaves = list[last as usize];
-        fills::cover(outputs, end, last, list);
+        fills::cover(outputs, last, &mut list[..end as usize]);
         self.n = w.low + 1;
         self.j_max = w.layer;
         self.used = end;
@@ -182,7 +182,7 @@ impl ConsistentReservoir {
         if list.len() < (inputs as usize) {
             return Err(Refusal::ShortMemory);
         }
-        fills::cover(outputs, inputs, self.k, list);
+        fills::cover(outputs, self.k, &mut list[..inputs as usize]);
         self.j_max = layer.number;
         self.used = inputs;
         Ok(())

@@ -7,44 +7,42 @@ ghost use Rattle.orders.specs.InnerPasses.{rank_of, laid_of, placed};
 use crate::layer::Layer;
 use crate::outputs::Outputs;
 
-// A layer's first e outputs over the list, those with top bits 00 replaced by the list's first t numbers, of which there are as
+// A layer's first outputs over the list, those with top bits 00 replaced by the list's first t numbers, of which there are as
 // many.
-pub(crate) fn cover(outputs: Outputs, e: u32, t: u32, list: &mut [u32])
-    requires size { e ≤ size outputs.layer.number }
-    requires room { e ≤ length list.old }
-    requires rank { t ≡ rank_of outputs.key outputs.layer.number e }
-    ensures { list.new ≡ laid_of outputs.key outputs.layer.number e list.old }
+pub(crate) fn cover(outputs: Outputs, t: u32, list: &mut [u32])
+    requires size { length list.old ≤ size outputs.layer.number }
+    requires rank { t ≡ rank_of outputs.key outputs.layer.number (length list.old) }
+    ensures { list.new ≡ laid_of outputs.key outputs.layer.number (length list.old) list.old }
 {
     let quarter = outputs.quarter();
     let mut left = t as usize;
-    for p in (0..e).rev() {
-        let y = outputs.at(p);
+    for p in (0..list.len()).rev() {
+        let y = outputs.at(p as u32);
         if y < quarter {
             left -= 1;
-            list[p as usize] = list[left];
+            list[p] = list[left];
         } else {
-            list[p as usize] = y;
+            list[p] = y;
         }
     }
 }
 
-// The first u of P(4^m) over the list: those of P(4^(m−1)) that it has, then layer m−1 over them.
-pub(crate) fn lay(m: u32, key: u64, u: u32, list: &mut [u32])
+// The first of P(4^m) over the list: those of P(4^(m−1)) that it has, then layer m−1 over them.
+pub(crate) fn lay(m: u32, key: u64, list: &mut [u32])
     requires layer { m ≤ 15 }
-    requires size { u ≤ 4 ^ m }
-    requires room { u ≤ length list.old }
-    ensures { list.new ≡ placed key m u list.old }
+    requires size { length list.old ≤ 4 ^ m }
+    ensures { list.new ≡ placed key m (length list.old) list.old }
 {
     if m == 0 {
-        if u == 1 {
+        if list.len() == 1 {
             list[0] = 0;
         }
         return;
     }
     let outputs = Outputs::new(Layer { number: m - 1 }, key);
-    let t = outputs.zeros(u);
-    lay(m - 1, key, t, list);
-    cover(outputs, u, t, list);
+    let t = outputs.zeros(list.len() as u32);
+    lay(m - 1, key, &mut list[..t as usize]);
+    cover(outputs, t, list);
 }
 
 // The listed numbers below n, in order, over another list.

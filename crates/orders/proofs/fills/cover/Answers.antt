@@ -3,6 +3,7 @@
 use mathlib.Core.Path.{◌≡◌, ◌∙◌}
 use Prim.Native.Nat.{◌+◌, ◌-◌, ◌^◌, ◌<◌, ◌≤◌}
 use native.Mathlib.Omega.{arith}
+use lib.ListN.{length}
 use Rattle.layers.specs.Layer.{layer}
 use Rattle.orders.specs.InnerPasses.{rank_of}
 use Rattle.orders.proofs.CoverLaws.{rank_le, yes_rank, no_rank, yes_list, no_list, cover_start, part_zero}
@@ -16,7 +17,7 @@ top c = omega (arith, c.at-y.ensures, c.quarter-quarter.ensures, c.if-y-quarter.
 taken : (c : Then-y-quarter) → c.loop-p.left ≡ rank_of c.args.outputs.key c.args.outputs.layer.number (c.loop-p.p - 1) + 1
 taken c =
     let v = c.loop-p.invariant in
-    yes_rank _ _ _ _ c.requires.room _ _ _ (omega arith) (omega arith) v.0 v.1 (top c)
+    yes_rank _ _ c.args.list.now (length c.args.list.now) (omega arith) _ _ _ (omega arith) (omega arith) v.0 v.1 (top c)
 
 low : (c : Then-y-quarter) → c.loop-p.left ≤ c.loop-p.p
 low c =
@@ -24,7 +25,7 @@ low c =
     omega (arith, taken c, rank_le o.key o.layer.number (c.loop-p.p - 1))
 
 pub loop-p-init : goal.loop-p-init
-loop-p-init c = (c.requires.rank, cover_start _ _ _ _ c.requires.room)
+loop-p-init c = (c.requires.rank, cover_start _ _ c.args.list.now _ (omega arith))
 
 pub overflow_sub-left : goal.overflow_sub-left
 overflow_sub-left c = omega (arith, taken (goal.at.overflow_sub-left c).Then-y-quarter)
@@ -40,14 +41,14 @@ pub loop-p-preserved-then-y-quarter : goal.loop-p-preserved-then-y-quarter
 loop-p-preserved-then-y-quarter c =
     let v = c.loop-p.invariant in
     let w = (goal.at.loop-p-preserved-then-y-quarter c).Then-y-quarter in
-    (omega (arith, taken w), yes_list _ _ _ _ c.requires.room _ _ _ (omega arith) (omega arith) v.0 v.1 (top w))
+    (omega (arith, taken w), yes_list _ _ c.args.list.now (length c.args.list.now) (omega arith) _ _ _ (omega arith) (omega arith) v.0 v.1 (top w))
 
 pub loop-p-preserved : goal.loop-p-preserved
 loop-p-preserved c =
     let v = c.loop-p.invariant in
     let o = c.args.outputs in
     let y : 4 ^ o.layer.number ≤ layer o.layer.number o.key (c.loop-p.p - 1) = omega (arith, c.at-y.ensures, c.quarter-quarter.ensures, c.if-y-quarter.false) in
-    (no_rank _ _ _ _ c.requires.room _ _ _ (omega arith) (omega arith) v.0 v.1 y, rw c.at-y.ensures (no_list _ _ _ _ c.requires.room _ _ _ (omega arith) (omega arith) v.0 v.1 y))
+    (no_rank _ _ c.args.list.now (length c.args.list.now) (omega arith) _ _ _ (omega arith) (omega arith) v.0 v.1 y, rw c.at-y.ensures (no_list _ _ c.args.list.now (length c.args.list.now) (omega arith) _ _ _ (omega arith) (omega arith) v.0 v.1 y))
 
 pub returns : goal.returns
 returns c = c.loop-p.invariant.1 ∙ part_zero _ _ c.loop-p.p (omega arith)

@@ -5,13 +5,16 @@ use mathlib.Core.Bool.{true}
 use Prim.Native.Nat.{◌+◌, ◌-◌, ◌≤◌}
 use native.Mathlib.Omega.{arith}
 use Rattle.std.specs.Prelude.{Some}
+use lib.ListN.{length, take}
+use lib.Seq.{length-take-le}
 use Rattle.lists.specs.Lists.{below, standing}
 use Rattle.orders.specs.Reservoirs.{outputs}
 use Rattle.orders.specs.ReservoirCalls.{key_of, j_of, fitting}
 use Rattle.orders.specs.InnerPasses.{wide_of}
+use Rattle.orders.proofs.CoverLaws.{laid_over}
 use Rattle.orders.proofs.AdmitLaws.{above_low, above_pos, above_fit, above_more, above_v, above_k, end_le, end_rank, above_refused, above_done}
 use Rattle.orders.proofs.consistent_reservoir.ConsistentReservoir.admit_above.Goals as goal
-use Rattle.orders.proofs.consistent_reservoir.ConsistentReservoir.admit_above.Goals.{Start, After-standing-end}
+use Rattle.orders.proofs.consistent_reservoir.ConsistentReservoir.admit_above.Goals.{Start, After-standing-end, Else-list-end}
 
 asked : (c : Start) → (fitting c.args.self.now c.args.list.now ≡ true)
     × (c.args.self.now.used ≤ c.args.self.now.k)
@@ -23,6 +26,9 @@ end_is : (c : After-standing-end)
 end_is c =
     let e = c.new-outputs.ensures in
     rw (e.layer, e.key) at c.standing-end.ensures
+
+room : (c : Else-list-end) → length (take c.standing-end.result c.args.list.now) ≡ c.standing-end.result
+room c = length-take-le _ c.args.list.now c.if-list-end.false
 
 pub invariant_of-new : goal.invariant_of-new
 invariant_of-new c = record { below = above_low _ _ _ (asked (goal.at.invariant_of-new c).Start) }
@@ -50,12 +56,13 @@ bounds-list-last c = omega (arith, above_k _ _ _ (asked (goal.at.bounds-list-las
 pub cover-requires-clause-size : goal.cover-requires-clause-size
 cover-requires-clause-size c =
     let p = asked (goal.at.cover-requires-clause-size c).Start in
-    rw c.new-outputs.ensures.layer (omega (arith, end_le _ _ _ p _ (end_is (goal.at.cover-requires-clause-size c).After-standing-end), above_fit _ _ _ p))
+    let e = c.new-outputs.ensures in
+    rw e.layer (omega (arith, room (goal.at.cover-requires-clause-size c).Else-list-end, end_le _ _ _ p _ (end_is (goal.at.cover-requires-clause-size c).After-standing-end), above_fit _ _ _ p))
 
 pub cover-requires-clause-rank : goal.cover-requires-clause-rank
 cover-requires-clause-rank c =
     let e = c.new-outputs.ensures in
-    rw (e.layer, e.key) (end_rank _ _ _ (asked (goal.at.cover-requires-clause-rank c).Start) _ (end_is (goal.at.cover-requires-clause-rank c).After-standing-end))
+    rw (room (goal.at.cover-requires-clause-rank c).Else-list-end, e.layer, e.key) (end_rank _ _ _ (asked (goal.at.cover-requires-clause-rank c).Start) _ (end_is (goal.at.cover-requires-clause-rank c).After-standing-end))
 
 pub overflow_add-self : goal.overflow_add-self
 overflow_add-self c = omega (arith, above_v _ _ _ (asked (goal.at.overflow_add-self c).Start))
@@ -64,4 +71,4 @@ pub returns : goal.returns
 returns c =
     let e = c.new-outputs.ensures in
     let fill = rw (e.layer, e.key) at c.cover.ensures in
-    rw fill (above_done _ _ _ (asked (goal.at.returns c).Start) _ (end_is (goal.at.returns c).After-standing-end) c.if-list-end.false)
+    rw (fill, laid_over _ _ _ c.args.list.now c.if-list-end.false) (above_done _ _ _ (asked (goal.at.returns c).Start) _ (end_is (goal.at.returns c).After-standing-end) c.if-list-end.false)

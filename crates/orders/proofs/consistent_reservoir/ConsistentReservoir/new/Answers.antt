@@ -4,8 +4,10 @@ use mathlib.Core.Path.{◌≡◌}
 use Prim.Native.Nat.{◌^◌}
 use native.Mathlib.Omega.{arith}
 use borrow.Author.Tests.{lt-ltb, le-ltb, eq-eqb, ne_eqb}
+use lib.Seq.{length-take-le}
 use Rattle.orders.specs.ReservoirCalls.{open_call}
 use Rattle.orders.specs.InnerPasses.{scan_of}
+use Rattle.orders.proofs.PlacedLaws.{placed_front}
 use Rattle.orders.proofs.OpenLaws.{open_few, open_fit, open_refused, open_done}
 use Rattle.orders.proofs.consistent_reservoir.ConsistentReservoir.new.Goals as goal
 use Rattle.orders.proofs.consistent_reservoir.ConsistentReservoir.new.Goals.{After-scan-used}
@@ -44,9 +46,9 @@ returns-then-list-used c =
 pub lay-requires-clause-size : goal.lay-requires-clause-size
 lay-requires-clause-size c =
     let a = c.args in
-    open_fit a.key a.k a.n a.list.now (omega arith) c.if-k-eq0.false (omega arith) _ c.of-layer.ensures _ (scan_is (goal.at.lay-requires-clause-size c).After-scan-used)
+    rw (length-take-le _ a.list.now c.if-list-used.false) (open_fit a.key a.k a.n a.list.now (omega arith) c.if-k-eq0.false (omega arith) _ c.of-layer.ensures _ (scan_is (goal.at.lay-requires-clause-size c).After-scan-used))
 
 pub returns : goal.returns
 returns c =
     let a = c.args in
-    rw c.lay.ensures (open_done a.key a.k a.n a.list.now (omega arith) c.if-k-eq0.false (omega arith) _ c.of-layer.ensures _ (scan_is (goal.at.returns c).After-scan-used) (omega arith))
+    rw (c.lay.ensures, placed_front _ _ _ a.list.now c.if-list-used.false) (open_done a.key a.k a.n a.list.now (omega arith) c.if-k-eq0.false (omega arith) _ c.of-layer.ensures _ (scan_is (goal.at.returns c).After-scan-used) (omega arith))
