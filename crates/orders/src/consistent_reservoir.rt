@@ -135,20 +135,18 @@ impl ConsistentReservoir {
         ensures { after (map_told exchanged (told result)) self.new list.new ≡ exchange self.old w.layer (grown (key_of self.old) w.layer self.old.k (listed self.old list.old)) list.old }
     {
         let outputs = Outputs::new(Layer { number: w.layer }, self.master_key);
+        let enters = w.low;
         let last = self.k - 1;
-        let end = outputs.standing(w.low, self.k, w.inputs - 1);
+        let end = outputs.standing(enters, self.k, w.inputs - 1);
         if list.len() < (end as usize) {
             return Err(Refusal::ShortMemory);
         }
         let leaves = list[last as usize];
         fills::cover(outputs, last, &mut list[..end as usize]);
-        self.n = w.low + 1;
+        self.n = enters + 1;
         self.j_max = w.layer;
         self.used = end;
-        Ok(Exchange {
-            enters: w.low,
-            leaves,
-        })
+        Ok(Exchange { enters, leaves })
     }
 
     // The step to the next layer: refusals 12, 7, 8, 4.

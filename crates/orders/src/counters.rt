@@ -128,7 +128,8 @@ pub(crate) fn stop(key: u64, j: Layer, cs: [u32; 15]) -> Option<u32>
         return None;
     }
     let y = j.output(key, x);
-    if j.quarter() <= y {
+    let quarter = j.quarter();
+    if quarter <= y {
         return Some(y);
     }
     if j.number == 0 {
