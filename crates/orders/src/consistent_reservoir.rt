@@ -5,7 +5,7 @@ ghost use Rattle.lists.specs.Told.{map_told, says};
 ghost use Rattle.answers.specs.Refusals.{number, told};
 ghost use Rattle.orders.specs.Reservoirs.{grown};
 ghost use Rattle.orders.specs.ReservoirCalls.{key_of, j_of, listed, fitting, after_open, open_call, short_refusal, told_exchange, after, exchange, admit_call, grow_to, grow_layer_call, after_sample, sample_call};
-ghost use Rattle.orders.specs.InnerPasses.{wide_of, low_of, exchanged};
+ghost use Rattle.orders.specs.InnerPasses.{test_of, wide_of, low_of, exchanged};
 
 use crate::layer::Layer;
 use crate::outputs::Outputs;
@@ -41,15 +41,7 @@ impl ConsistentReservoir {
     pub fn new(k: u32, n: u32, key: u64, list: &mut [u32]) -> Result<Self, Refusal>
         ensures { after_open (told result) list.new ≡ open_call k n key list.old }
     {
-        if Self::N_LIMIT < n {
-            return Err(Refusal::NAboveLimit);
-        }
-        if k == 0 {
-            return Err(Refusal::KIsZero);
-        }
-        if n < k {
-            return Err(Refusal::KAboveN);
-        }
+        Self::tested(k, n)?;
         // The used length is at least k, so that a list too short for k is known before the scan.
         if list.len() < (k as usize) {
             return Err(Refusal::ShortMemory);
@@ -73,16 +65,26 @@ impl ConsistentReservoir {
     pub fn short_refusal(k: u32, n: u32) -> Refusal
         ensures { number result ≡ short_refusal k n }
     {
+        match Self::tested(k, n) {
+            Ok(()) => Refusal::ShortMemory,
+            Err(why) => why,
+        }
+    }
+
+    // The refusals of an open that go by k and n: 1, 2, 3.
+    fn tested(k: u32, n: u32) -> Result<(), Refusal>
+        ensures { told result ≡ test_of k n }
+    {
         if Self::N_LIMIT < n {
-            return Refusal::NAboveLimit;
+            return Err(Refusal::NAboveLimit);
         }
         if k == 0 {
-            return Refusal::KIsZero;
+            return Err(Refusal::KIsZero);
         }
         if n < k {
-            return Refusal::KAboveN;
+            return Err(Refusal::KAboveN);
         }
-        Refusal::ShortMemory
+        Ok(())
     }
 
     // Whether the record fits its list: refusal 12 of the other calls.

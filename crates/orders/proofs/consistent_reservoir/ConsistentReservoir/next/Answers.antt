@@ -1,6 +1,7 @@
 -- `orders::consistent_reservoir::ConsistentReservoir::next` meets its contract.
 -- Assumes nothing.
 use mathlib.Core.Path.{◌∙◌}
+use native.Mathlib.Omega.{arith}
 use Rattle.std.proofs.lemmas.Result.{err_from_is_err_and}
 use Rattle.orders.proofs.CheckLaws.{fits_parts, checked_no, checked_yes}
 use Rattle.orders.proofs.WideLaws.{found_none}
@@ -20,7 +21,7 @@ pub returns-then-self : goal.returns-then-self
 returns-then-self c = c.admit_here.ensures ∙ admit_longer _ _ (checked_yes _ _ _ c.in-Some.ensures).0 c.if-self.true
 
 pub invariant_of-layer : goal.invariant_of-layer
-invariant_of-layer c = record { below = (fits_parts _ _ (checked_yes _ _ _ c.in-Some.ensures).0).shape.j_low }
+invariant_of-layer c = record { below = omega (arith, (fits_parts _ _ (checked_yes _ _ _ c.in-Some.ensures).0).shape.j_low) }
 
 pub returns-in_default-wider_than : goal.returns-in_default-wider_than
 returns-in_default-wider_than c =
