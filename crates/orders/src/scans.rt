@@ -71,7 +71,8 @@ impl Outputs {
     }
 }
 
-// The same of listed numbers.
+// The same of listed numbers. One function for both was tried, over a closure that gives the p-th number and a ghost list of
+// them: the proof of its callers did not close, in the part that Rattle writes. A trait with two impls is longer than a loop.
 pub(crate) fn standing(list: &[u32], v: u32, k: u32) -> u32
     requires few { k ≤ length list.now }
     requires fit { length list.now < 4294967296 }
