@@ -24,7 +24,7 @@ use Rattle.orders.specs.declared.consistent_reservoir.ConsistentReservoir.{Consi
 use Rattle.orders.specs.declared.checks.Survey.{Survey}
 use Rattle.orders.specs.ReservoirCalls.{j_of, listed, sample, fitting}
 use Rattle.orders.specs.InnerPasses.{or_all, low_of, survey_of, check_of}
-use Rattle.orders.proofs.LogLaws.{size_suc, size_limit}
+use Rattle.orders.proofs.LogLaws.{size_suc}
 
 -- ---- the test in two parts: what the record's numbers and the list's length decide, and what the listed numbers do
 
@@ -64,9 +64,6 @@ of_shape : (r : ConsistentReservoir) (len : ℕ) → Shape r len → shape_of r 
 unfolding shape_of
 of_shape r len s =
     simp (le-leb (j_of r) 14 (omega (arith, s.j_low)), le-leb 1 r.k s.some_k, le-leb r.k r.n s.k_le, le-leb r.n (size (j_of r)) (omega (arith, s.n_le, size_suc (j_of r))), le-leb r.used len s.used_le)
-
-pub shape_small : (r : ConsistentReservoir) (len : ℕ) → Shape r len → r.n ≤ 4 ^ 15
-shape_small r len s = omega (arith, s.n_le, size_limit (j_of r) (omega (arith, s.j_low)))
 
 pub record Fits (r : ConsistentReservoir) (l : List ℕ) : Type 0 where
   pub shape : Shape r (length l)

@@ -17,7 +17,7 @@ use Rattle.lists.proofs.Tests.{below_yes, below_no, by_below}
 use Rattle.lists.proofs.Permutations.{from_length}
 use Rattle.lists.proofs.Prefixes.{keep_snoc_yes, keep_snoc_no}
 use Rattle.lists.proofs.Replacing.{replace_length, replace_at, replace_same}
-use Rattle.lists.proofs.Writing.{part, part_set, part_old, length_part}
+use Rattle.lists.proofs.Writing.{part, part_set, part_old}
 use Rattle.layers.specs.Layer.{layer}
 use Rattle.orders.specs.InnerPasses.{outs, rank_of, laid_of}
 use Rattle.orders.proofs.ScanLaws.{outs_at}
@@ -89,9 +89,6 @@ module _ (key i : ℕ) where
 module _ (key i : ℕ) (old : List ℕ) (e : ℕ) (fits : e ≤ length old) (p t : ℕ) (list : List ℕ) (pos : 0 < p) (le : p ≤ e) (ranked : t ≡ rank_of key i p) (is : list ≡ part old (laid_of key i e old) p) where
   back : p - 1 + 1 ≡ p
   back = omega arith
-
-  pub turn_length : length list ≡ length old
-  turn_length = ap length is ∙ length_part old (laid_of key i e old) (length_laid key i old e fits) p (omega arith)
 
   pub yes_rank : layer i key (p - 1) < 4 ^ i → t ≡ rank_of key i (p - 1) + 1
   yes_rank y = ranked ∙ ap (rank_of key i) (sym back) ∙ rank_yes key i (p - 1) y

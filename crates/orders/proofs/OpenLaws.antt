@@ -17,7 +17,6 @@ use Rattle.orders.specs.Orders.{layer_of}
 use Rattle.orders.specs.Reservoirs.{opening}
 use Rattle.orders.specs.ReservoirCalls.{listed, sample, fitting, after_open, reservoir_of, open_call, short_refusal, after_sample, sample_call}
 use Rattle.orders.specs.InnerPasses.{test_of, scan_of, placed}
-use Rattle.orders.proofs.LogLaws.{layer_in}
 use Rattle.orders.proofs.PlacedLaws.{opening_length, opening_long, opening_fits, opening_placed}
 
 -- ---- the tests of k and n
@@ -65,9 +64,6 @@ open_few key k n l n_small some_k few h =
     rw (le-ltb (2 ^ 30) n n_small, ne_eqb k 0 some_k, le-ltb n k few, lt-ltb (length l) (length (opening key k n)) (omega (arith, opening_long key k n n_small few)))
 
 module _ (key k n : ℕ) (l : List ℕ) (n_small : n ≤ 2 ^ 30) (some_k : k ≡ 0 → ⊥) (few : k ≤ n) (j : ℕ) (layer-is : j ≡ layer_of n) (s : Scan) (is : s ≡ scan_of key j n k) where
-  pub open_layer : j < 15
-  open_layer = rw layer-is (omega (arith, layer_in n n_small))
-
   inputs_open : s.inputs ≡ length (opening key k n)
   inputs_open =
       ap (λ (z : Scan). z.inputs) is ∙ ap (λ (i : ℕ). (scan_of key i n k).inputs) layer-is ∙ opening_length key k n (omega arith) n_small

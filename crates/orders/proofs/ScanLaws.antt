@@ -15,8 +15,6 @@ use Rattle.lists.specs.Lists.{keep, below, not_below, count_below, up_to}
 use Rattle.lists.proofs.Tests.{by_below}
 use Rattle.lists.proofs.Prefixes.{up_to_zero}
 use Rattle.layers.specs.Layer.{size, layer}
-use Rattle.layers.specs.declared.KeyedLayer.{KeyedLayer}
-use Rattle.layers.specs.KeyedLayers.{keyed_layer}
 use Rattle.orders.specs.declared.scans.Scan.{Scan}
 use Rattle.orders.specs.Reservoirs.{outputs}
 use Rattle.orders.specs.InnerPasses.{outs, least, scanned, scan_of, rank_of}
@@ -52,11 +50,6 @@ outs_none : (key i x N : ℕ) → N ≤ x → outs key i x (N - x) ≡ []
 outs_none key i x N h =
     let e : N - x ≡ 0 = omega arith in
     rw e
-
--- ---- the record of a layer
-
-pub keyed_size : (f : KeyedLayer) (i key : ℕ) → f ≡ keyed_layer i key → f.size ≡ size i
-keyed_size f i key e = ap (λ (g : KeyedLayer). g.size) e
 
 -- ---- the scan of a layer
 

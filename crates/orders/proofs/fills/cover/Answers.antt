@@ -1,12 +1,12 @@
 -- `orders::fills::cover` meets its contract.
 -- Assumes nothing.
-use mathlib.Core.Path.{◌≡◌, ◌∙◌}
+use mathlib.Core.Path.{◌≡◌}
 use Prim.Native.Nat.{◌+◌, ◌-◌, ◌^◌, ◌<◌, ◌≤◌}
 use native.Mathlib.Omega.{arith}
 use lib.ListN.{length}
 use Rattle.layers.specs.Layer.{layer}
 use Rattle.orders.specs.InnerPasses.{rank_of}
-use Rattle.orders.proofs.CoverLaws.{rank_le, yes_rank, no_rank, yes_list, no_list, cover_start, part_zero}
+use Rattle.orders.proofs.CoverLaws.{rank_le, yes_rank, no_rank, yes_list, no_list, cover_start}
 use Rattle.orders.proofs.fills.cover.Goals as goal
 use Rattle.orders.proofs.fills.cover.Goals.{Then-y-quarter}
 
@@ -49,6 +49,3 @@ loop-p-preserved c =
     let o = c.args.outputs in
     let y : 4 ^ o.layer.number ≤ layer o.layer.number o.key (c.loop-p.p - 1) = omega (arith, c.at-y.ensures, c.quarter-quarter.ensures, c.if-y-quarter.false) in
     (no_rank _ _ c.args.list.now (length c.args.list.now) (omega arith) _ _ _ (omega arith) (omega arith) v.0 v.1 y, rw c.at-y.ensures (no_list _ _ c.args.list.now (length c.args.list.now) (omega arith) _ _ _ (omega arith) (omega arith) v.0 v.1 y))
-
-pub returns : goal.returns
-returns c = c.loop-p.invariant.1 ∙ part_zero _ _ c.loop-p.p (omega arith)

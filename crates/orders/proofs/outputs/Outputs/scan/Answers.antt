@@ -6,15 +6,12 @@ use Prim.Native.Nat.{◌-◌, min}
 use native.Mathlib.Omega.{arith}
 use borrow.Author.Tests.{lt-ltb, le-ltb}
 use lib.Dec.{ltb}
-use Rattle.orders.proofs.ScanLaws.{fewer_is, scan_start, scan_full, scan_turn, scan_done}
+use Rattle.orders.proofs.ScanLaws.{fewer_is, scan_start, scan_turn}
 use Rattle.orders.proofs.outputs.Outputs.scan.Goals as goal
 use Rattle.orders.proofs.outputs.Outputs.scan.Goals.{then-y-bound, else-y-bound}
 
 pub loop-x-init : goal.loop-x-init
 loop-x-init c = scan_start _ _ _ _
-
-pub returns-then-left-eq0 : goal.returns-then-left-eq0
-returns-then-left-eq0 c = scan_done _ _ _ _ _ _ (omega arith) c.loop-x.invariant
 
 pub loop-x-preserved : goal.loop-x-preserved
 loop-x-preserved c =
@@ -29,9 +26,3 @@ loop-x-preserved c =
       | else-y-bound w ↦ rw (w.low-is, le-ltb y b w.if-y-bound.false) (omega (arith, w.min-low.ensures))
     ] in
     scan_turn _ _ _ _ _ _ _ _ _ (omega (arith, c.size-size.ensures)) (omega arith) c.at-y.ensures left low l.invariant
-
-pub returns : goal.returns
-returns c =
-    let l = c.loop-x in
-    let e : l.x ≡ c.size-size.result = omega arith in
-    rw (← e) (scan_full _ _ _ _ l.x _ (omega arith) l.invariant)

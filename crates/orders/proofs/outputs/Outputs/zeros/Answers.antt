@@ -5,7 +5,7 @@ use mathlib.Core.Bool.{cond}
 use Prim.Native.Nat.{◌+◌, ◌^◌}
 use native.Mathlib.Omega.{arith}
 use lib.Dec.{ltb}
-use Rattle.orders.proofs.ScanLaws.{more_is, test_le, rank_start, rank_turn, rank_done}
+use Rattle.orders.proofs.ScanLaws.{more_is, test_le, rank_start, rank_turn}
 use Rattle.orders.proofs.outputs.Outputs.zeros.Goals as goal
 
 pub loop-x-init : goal.loop-x-init
@@ -20,6 +20,3 @@ loop-x-preserved c =
     let test = c.from-t.ensures in
     let t : l.t + c.from-t.result ≡ cond (ltb y q) (l.t + 1) l.t = rw (test, c.quarter-quarter.ensures) (more_is (ltb y q) l.t) in
     (omega (arith, test, test_le (ltb y c.quarter-quarter.result)), rank_turn _ _ _ _ _ _ _ c.loop-x-test.true c.at.ensures t v.1)
-
-pub returns : goal.returns
-returns c = rank_done _ _ _ c.loop-x.x _ (omega arith) c.loop-x.invariant.1
