@@ -10,14 +10,6 @@ use Rattle.orders.specs.InnerCounters.{raises}
 use Rattle.orders.proofs.CounterLaws.{small_start, small_turn, raise_start, raise_turn, raise_end}
 use Rattle.orders.proofs.counters.raise.Goals as goal
 
-pub loop-number-init : goal.loop-number-init
-loop-number-init c =
-    let a = c.args in
-    (small_start a.cs.now _ _ a.top.number a.x c.requires.room c.set_counter.ensures, refl)
-
-pub overflow_add-higher : goal.overflow_add-higher
-overflow_add-higher c = omega (arith, c.loop-number.invariant.0 c.loop-number.number (omega arith) (omega arith))
-
 pub loop-number-preserved : goal.loop-number-preserved
 unfolding counted
 loop-number-preserved c =
