@@ -10,15 +10,12 @@ use native.Mathlib.Omega.{arith}
 use lib.Dec.{ltb}
 use lib.ListN.{get_or}
 use borrow.Author.Tests.{lt-ltb, le-ltb, le-leb, lt-leb}
-use Rattle.lists.specs.Told.{Told, refusal, says}
 use Rattle.lists.specs.Lists.{keep, below, not_below, count_below, up_to}
 use Rattle.lists.proofs.Tests.{by_below}
 use Rattle.lists.proofs.Prefixes.{up_to_zero}
 use Rattle.layers.specs.Layer.{size, layer}
 use Rattle.layers.specs.declared.KeyedLayer.{KeyedLayer}
-use Rattle.layers.specs.KeyedLayers.{keyed_layer, keyed}
-use Rattle.layers.specs.Calls.{layer_apply}
-use Rattle.layers.proofs.CallLaws.{apply_in, keyed_in}
+use Rattle.layers.specs.KeyedLayers.{keyed_layer}
 use Rattle.orders.specs.declared.scans.Scan.{Scan}
 use Rattle.orders.specs.Reservoirs.{outputs}
 use Rattle.orders.specs.InnerPasses.{outs, least, scanned, scan_of, rank_of}

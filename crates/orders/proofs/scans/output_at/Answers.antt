@@ -1,6 +1,6 @@
 -- `orders::scans::output_at` meets its contract.
 -- Assumes nothing.
-use Rattle.std.proofs.Common.{◌≡◌, Ok, ◌∙◌, sym, ap, arith, is_ok}
+use Rattle.std.proofs.Common.{◌≡◌, Ok, ◌∙◌, ap, arith, is_ok}
 use Rattle.answers.proofs.Tolds.{told_ok}
 use Rattle.layers.specs.Layer.{layer}
 use Rattle.layers.proofs.CallLaws.{apply_in}
