@@ -178,7 +178,7 @@ impl ConsistentReservoir {
             number: self.j_max + 1,
         };
         let outputs = Outputs::new(layer, self.master_key);
-        let inputs = outputs.scan(outputs.quarter(), self.k).inputs;
+        let inputs = outputs.scan(layer.quarter(), self.k).inputs;
         if list.len() < (inputs as usize) {
             return Err(Refusal::ShortMemory);
         }

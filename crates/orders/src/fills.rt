@@ -14,7 +14,7 @@ pub(crate) fn cover(outputs: Outputs, t: u32, list: &mut [u32])
     requires rank { t ≡ rank_of outputs.key outputs.layer.number (length list.old) }
     ensures { list.new ≡ laid_of outputs.key outputs.layer.number (length list.old) list.old }
 {
-    let quarter = outputs.quarter();
+    let quarter = outputs.layer.quarter();
     let mut left = t as usize;
     for p in (0..list.len()).rev() {
         let y = outputs.at(p as u32);

@@ -1,5 +1,5 @@
 // A layer under a key, for many outputs: its record is made once.
-ghost use Rattle.std.specs.Prelude.{◌≡◌, ◌^◌};
+ghost use Rattle.std.specs.Prelude.{◌≡◌};
 ghost use Rattle.layers.specs.Layer.{layer};
 ghost use Rattle.layers.specs.KeyedLayers.{keyed_layer};
 
@@ -28,12 +28,5 @@ impl Outputs {
         ensures { result ≡ layer self.layer.number self.key x }
     {
         self.keyed.apply(x)
-    }
-
-    // Outputs below this have top bits 00.
-    pub(crate) fn quarter(self) -> u32
-        ensures { result ≡ 4 ^ self.layer.number }
-    {
-        self.layer.quarter()
     }
 }

@@ -48,7 +48,7 @@ impl Outputs {
         requires { u ≤ size self.layer.number }
         ensures { result ≡ rank_of self.key self.layer.number u }
     {
-        let quarter = self.quarter();
+        let quarter = self.layer.quarter();
         let mut t = 0;
         for x in 0..u {
             t += u32::from(self.at(x) < quarter);
@@ -91,8 +91,8 @@ pub(crate) fn wider_than(j: Layer, key: u64, k: u32) -> Option<Wide>
     ensures { result ≡ wide_of key k j.number }
 {
     for number in j.number + 1..15 {
-        let outputs = Outputs::new(Layer { number }, key);
-        let s = outputs.scan(outputs.quarter(), k);
+        let layer = Layer { number };
+        let s = Outputs::new(layer, key).scan(layer.quarter(), k);
         if k < s.inputs {
             return Some(Wide {
                 layer: number,

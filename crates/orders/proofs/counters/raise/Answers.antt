@@ -1,13 +1,13 @@
 -- `orders::counters::raise` meets its contract.
 -- Assumes nothing.
-use mathlib.Core.Path.{◌≡◌, refl, sym, ap, ◌∙◌}
+use mathlib.Core.Path.{◌≡◌, sym, ap, ◌∙◌}
 use mathlib.Core.List.{List}
 use Prim.Native.Nat.{◌+◌, ℕ, ◌-◌}
 use native.Mathlib.Omega.{arith}
 use lib.ListN.{set}
 use Rattle.orders.specs.Orders.{counted}
 use Rattle.orders.specs.InnerCounters.{raises}
-use Rattle.orders.proofs.CounterLaws.{small_start, small_turn, raise_start, raise_turn, raise_end}
+use Rattle.orders.proofs.CounterLaws.{small_turn, raise_start, raise_turn, raise_end}
 use Rattle.orders.proofs.counters.raise.Goals as goal
 
 pub loop-number-preserved : goal.loop-number-preserved

@@ -10,7 +10,7 @@ use Rattle.orders.proofs.scans.wider_than.Goals.{After-scan-s}
 
 scan_is : (c : After-scan-s) → c.scan-s.result ≡ scan_of c.args.key c.loop-number.number (4 ^ c.loop-number.number) c.args.k
 scan_is c =
-    let e = c.new-outputs.ensures in
+    let e = c.new.ensures in
     rw (c.quarter.ensures, e.layer, e.key) at c.scan-s.ensures
 
 pub loop-number-init : goal.loop-number-init
