@@ -83,14 +83,14 @@ unfolding plan_line
 plan_site w current.Nothing e = rw e
 plan_site w (current.Open r) e = rw e
 
-answered_reaches : (w : World) (c : Command) → SiteReached w.site → SiteReached (answered w c).world.site
+answered_reaches : (w : World) (c : Told Command) → SiteReached w.site → SiteReached (answered w c).world.site
 unfolding answered open_line
-answered_reaches w (command.Open key k n) h = open_reaches key k n w.site h (open_call key k n w.site.list).told (open_call key k n w.site.list).list refl
-answered_reaches w command.Admit h = admit_reaches w.site.list w.site.table w.site.current h
-answered_reaches w command.Join h = join_reaches w.site.list w.site.table w.site.current h
-answered_reaches w (command.Withdraw x) h = withdraw_reaches w.site.list w.site.table x w.site.current h
-answered_reaches w command.Plan h = subst SiteReached (sym (plan_site w w.site.current refl)) h
-answered_reaches w (command.Refused c) h = h
+answered_reaches w (says (command.Open key k n)) h = open_reaches key k n w.site h (open_call key k n w.site.list).told (open_call key k n w.site.list).list refl
+answered_reaches w (says command.Admit) h = admit_reaches w.site.list w.site.table w.site.current h
+answered_reaches w (says command.Join) h = join_reaches w.site.list w.site.table w.site.current h
+answered_reaches w (says (command.Withdraw x)) h = withdraw_reaches w.site.list w.site.table x w.site.current h
+answered_reaches w (says command.Plan) h = subst SiteReached (sym (plan_site w w.site.current refl)) h
+answered_reaches w (refusal c) h = h
 
 pub lines_reach : (ls : List (List ℕ)) (w : World) → SiteReached w.site → SiteReached (after_lines w ls).site
 unfolding respond
@@ -181,14 +181,14 @@ plan_line_lengths w (current.Open r) e h =
     let p = plan_lengths s (reached_kept s h) w.locations w.terminals w.places in
     rw e (λ i. lengths_by (length w.site.list) (length w.site.table) (p.0 i) (p.1 i) w.places)
 
-answered_lengths : (w : World) (c : Command) → SiteReached w.site → lengths (answered w c).world ≡ lengths w
+answered_lengths : (w : World) (c : Told Command) → SiteReached w.site → lengths (answered w c).world ≡ lengths w
 unfolding answered
-answered_lengths w (command.Open key k n) h = site_lengths w (open_line key k n w.site).site (open_lengths key k n w.site)
-answered_lengths w command.Admit h = site_lengths w (admit_line w.site).site (admit_lengths w.site.list w.site.table w.site.current)
-answered_lengths w command.Join h = site_lengths w (join_line w.site).site (join_lengths w.site.list w.site.table w.site.current)
-answered_lengths w (command.Withdraw x) h = site_lengths w (withdraw_line x w.site).site (withdraw_lengths w.site.list w.site.table x w.site.current)
-answered_lengths w command.Plan h = plan_line_lengths w w.site.current refl h
-answered_lengths w (command.Refused c) h = refl
+answered_lengths w (says (command.Open key k n)) h = site_lengths w (open_line key k n w.site).site (open_lengths key k n w.site)
+answered_lengths w (says command.Admit) h = site_lengths w (admit_line w.site).site (admit_lengths w.site.list w.site.table w.site.current)
+answered_lengths w (says command.Join) h = site_lengths w (join_line w.site).site (join_lengths w.site.list w.site.table w.site.current)
+answered_lengths w (says (command.Withdraw x)) h = site_lengths w (withdraw_line x w.site).site (withdraw_lengths w.site.list w.site.table x w.site.current)
+answered_lengths w (says command.Plan) h = plan_line_lengths w w.site.current refl h
+answered_lengths w (refusal c) h = refl
 
 lines_lengths : (ls : List (List ℕ)) (w : World) → SiteReached w.site → lengths (after_lines w ls) ≡ lengths w
 unfolding respond

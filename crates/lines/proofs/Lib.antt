@@ -1,4 +1,5 @@
 pub mod CommandLaws
+pub mod FieldLaws
 pub mod CommandExamples
 pub mod DecimalLaws
 pub mod PutLaws

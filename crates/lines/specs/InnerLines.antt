@@ -1,14 +1,12 @@
 -- What private functions promise of lines and texts. No public promise cites this file.
 -- Assumes nothing.
-use Rattle.std.specs.Prelude.{◌≡◌, cond, List, [], ◌∷◌, ◌++◌, ℕ, suc, ◌+◌, ◌≤◌, eqb, length, take, drop}
-use Rattle.std.proofs.Math.Option.{Option, none, some}
+use Rattle.std.specs.Prelude.{◌≡◌, List, ◌++◌, ℕ, ◌+◌, ◌≤◌, length, take, drop, Option, Some, None}
+use Rattle.std.proofs.Math.Option as maybe
+use Rattle.lists.specs.Told.{Told, refusal, says}
 use Rattle.lists.specs.Lists.{written}
+use Rattle.lines.specs.declared.commands.Command.{Command}
 use Rattle.rounds.specs.Plans.{sheets}
 use Rattle.lines.specs.Replies.{Reply, opened, admitted, nothing, joined, withdrawn, planned, refused}
-use Rattle.lines.specs.declared.commands.Wide.{Wide}
-use Rattle.lines.specs.declared.commands.Wide.TheVariants as wide
-use Rattle.lines.specs.declared.commands.Small.{Small}
-use Rattle.lines.specs.declared.commands.Small.TheVariants as small
 use Rattle.lines.specs.declared.texts.Answer.{Answer}
 use Rattle.lines.specs.declared.texts.Answer.TheVariants as answer
 use Rattle.lines.specs.declared.texts.Output.{Output}
@@ -16,18 +14,15 @@ use Rattle.lines.specs.declared.texts.Output.TheVariants as output
 
 -- ---- a line taken apart
 
--- where the first byte of a kind is, or the length
-abbrev pub place_of : ℕ → List ℕ → ℕ
-place_of x [] = 0
-place_of x (b ∷ l) = cond (eqb b x) 0 (suc (place_of x l))
+-- what a call found, if anything
+abbrev pub found : {A : Type 0} → Option A → maybe.Option A
+found (Some x) = maybe.some x
+found None = maybe.none
 
-abbrev pub wide_of : Wide → Option ℕ
-wide_of (wide.Number v) = some v
-wide_of wide.None = none
-
-abbrev pub small_of : Small → Option ℕ
-small_of (small.Number v) = some v
-small_of small.None = none
+-- what a form tells of a line: refusal 12 where the line has another
+abbrev pub told_form : Option Command → Told Command
+told_form (Some c) = says c
+told_form None = refusal 12
 
 -- ---- an answer as code has it
 

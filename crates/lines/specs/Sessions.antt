@@ -102,13 +102,13 @@ abbrev pub on_site : World → Said → Response
 on_site w a = response a.reply (world a.site w.locations w.terminals w.places)
 
 -- "12 .. a program line of no known form"
-unfoldable pub answered : World → Command → Response
-answered w (command.Open key k n) = on_site w (open_line key k n w.site)
-answered w command.Admit = on_site w (admit_line w.site)
-answered w command.Join = on_site w (join_line w.site)
-answered w (command.Withdraw x) = on_site w (withdraw_line x w.site)
-answered w command.Plan = plan_line w
-answered w (command.Refused c) = response (refused c) w
+unfoldable pub answered : World → Told Command → Response
+answered w (refusal c) = response (refused c) w
+answered w (says (command.Open key k n)) = on_site w (open_line key k n w.site)
+answered w (says command.Admit) = on_site w (admit_line w.site)
+answered w (says command.Join) = on_site w (join_line w.site)
+answered w (says (command.Withdraw x)) = on_site w (withdraw_line x w.site)
+answered w (says command.Plan) = plan_line w
 
 -- ---- lines
 

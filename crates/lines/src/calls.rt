@@ -4,12 +4,15 @@ ghost use Rattle.orders.specs.ReservoirCalls.{told_exchange};
 ghost use Rattle.choosers.specs.SlotCalls.{told_slot, told_outcome};
 ghost use Rattle.lines.specs.Replies.{joined, withdrawn};
 ghost use Rattle.lines.specs.Sessions.{site, world, replied, exchange_reply, open_line, admit_line, join_line, withdraw_line, answered};
+ghost use Rattle.lists.specs.Told.{says};
+ghost use Rattle.answers.specs.Refusals.{told};
 ghost use Rattle.lines.specs.InnerLines.{line_of, Printable};
 ghost use Rattle.lines.specs.InnerSessions.{said_by, refused_by, plan_by, planned, outcome_of, spoken_of, act_by};
 
 use crate::commands::Command;
 use crate::sessions::Current;
 use crate::texts::{Answer, Output};
+use answers::Refusal;
 use choosers::node_map::{Outcome, Slot};
 use orders::consistent_reservoir::Exchange;
 use rounds::round;
@@ -175,7 +178,7 @@ fn spoken(a: Answered) -> Acted
 }
 
 // What a command does.
-pub(crate) fn act(
+fn act(
     current: Current,
     command: Command,
     list: &mut [u32],
@@ -184,7 +187,7 @@ pub(crate) fn act(
     terminals: &mut [u32],
     scratch: &mut [u64],
 ) -> Acted
-    ensures answer { act_by result list.new table.new locations.new terminals.new (length scratch.old) ≡ answered (world (site current list.old table.old) locations.old terminals.old (length scratch.old)) command }
+    ensures answer { act_by result list.new table.new locations.new terminals.new (length scratch.old) ≡ answered (world (site current list.old table.old) locations.old terminals.old (length scratch.old)) (says command) }
     ensures printable { Printable result.output locations.new terminals.new }
 {
     match command {
@@ -196,6 +199,24 @@ pub(crate) fn act(
             current,
             output: plans(current, list, table, locations, terminals, scratch),
         },
-        Command::Refused(w) => spoken(refused(current, w)),
+    }
+}
+
+// What is done for what a line asks.
+pub(crate) fn heard(
+    current: Current,
+    asked: Result<Command, Refusal>,
+    list: &mut [u32],
+    table: &mut [u8],
+    locations: &mut [u32],
+    terminals: &mut [u32],
+    scratch: &mut [u64],
+) -> Acted
+    ensures answer { act_by result list.new table.new locations.new terminals.new (length scratch.old) ≡ answered (world (site current list.old table.old) locations.old terminals.old (length scratch.old)) (told asked) }
+    ensures printable { Printable result.output locations.new terminals.new }
+{
+    match asked {
+        Ok(command) => act(current, command, list, table, locations, terminals, scratch),
+        Err(why) => spoken(refused(current, why.number())),
     }
 }

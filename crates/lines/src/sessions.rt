@@ -1,5 +1,6 @@
 // A session: bytes are fed in whatever pieces they come, and the answers to the lines that they end are put into a list.
-ghost use Rattle.std.specs.Prelude.{◌≡◌, [], ◌++◌, ◌≤◌, ◌<◌, ◌+◌, length, take};
+ghost use Rattle.std.specs.Prelude.{◌≡◌, ◌==◌, [], ◌++◌, ◌≤◌, ◌<◌, ◌+◌, length, take};
+ghost use Rattle.std.specs.List.{position};
 ghost use Rattle.lines.specs.Sessions.{site, world, respond};
 ghost use Rattle.lines.specs.Streams.{held_most, progress, room_for, world_of, after_call, feed_call, end_call, BuffersAfter};
 ghost use Rattle.lines.specs.InnerSessions.{Holds, Says, Stepped, Took};
@@ -78,8 +79,8 @@ fn answer(
     ensures world_after { world (site result.current list.new table.new) locations.new terminals.new (length scratch.old) ≡ (respond (world (site current list.old table.old) locations.old terminals.old (length scratch.old)) bytes.now).world }
     ensures says { Says (respond (world (site current list.old table.old) locations.old terminals.old (length scratch.old)) bytes.now).reply out.old at out.new result.put }
 {
-    let command = commands::parse(bytes);
-    let a = calls::act(current, command, list, table, locations, terminals, scratch);
+    let asked = commands::parse(bytes);
+    let a = calls::heard(current, asked, list, table, locations, terminals, scratch);
     let after = a.current;
     let output = a.output;
     let put = texts::put_output(out, at, output, locations, terminals);
@@ -135,6 +136,13 @@ pub struct Taken {
     pub put: usize,
 }
 
+// Where the first line feed is.
+fn line_end(bytes: &[u8]) -> Option<usize>
+    ensures { result ≡ position (λ b. b == 10) bytes.now }
+{
+    bytes.iter().position(|byte| *byte == b'\n')
+}
+
 // Takes bytes up to and with their first line feed, or all where there is none.
 fn take_line(
     bytes: &[u8],
@@ -151,8 +159,7 @@ fn take_line(
     requires { (0 < length bytes.now) × (s.held ≤ held_most) × (held_most ≤ length line.old) × (at + room_for locations.old ≤ length out.old) }
     ensures { Stepped bytes.now (world_of s list.old table.old locations.old terminals.old scratch.old) line.old out.old s.held at (world_of result.session list.new table.new locations.new terminals.new scratch.new) line.new out.new result.session.held result.taken result.put }
 {
-    let e = commands::place_of(bytes, 10);
-    if e < bytes.len() {
+    if let Some(e) = line_end(bytes) {
         let taken = e + 1;
         let r = end_line(
             &bytes[..e],

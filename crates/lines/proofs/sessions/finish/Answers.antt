@@ -1,13 +1,13 @@
 -- `lines::sessions::finish` meets its contract.
 -- Assumes nothing.
 use mathlib.Core.Path.{◌∙◌, refl}
-use Rattle.lines.proofs.FeedLaws.{end_none, end_held}
+use Rattle.lines.proofs.FeedLaws.{end_bare, end_held}
 use Rattle.lines.proofs.sessions.finish.Goals as goal
 
 pub returns-then-held-eq0 : goal.returns-then-held-eq0
 returns-then-held-eq0 c = let a = c.args in
     record {
-      answer = end_none _ a.line.now _ _ c.if-held-eq0.true;
+      answer = end_bare _ a.line.now _ _ c.if-held-eq0.true;
       buffers_after = (refl, refl);
     }
 
