@@ -1,14 +1,17 @@
 -- Texts put into a list, one after another, and how long the texts of the answers are.
 -- Assumes nothing.
-use mathlib.Core.Path.{◌≡◌, refl, sym, ap, ◌∙◌}
+use mathlib.Core.Path.{◌≡◌, refl, sym, ap, ◌∙◌, subst}
 use mathlib.Core.List.{List, [], ◌∷◌, ◌++◌, append_assoc, append-nil}
 use mathlib.Core.Option.{Option, none, some}
 use Prim.Native.Nat.{ℕ, zero, suc, ◌+◌, ◌-◌, ◌*◌, ◌/◌, ◌%◌, ◌^◌, ◌≤◌, ◌<◌}
 use native.Mathlib.Numerals.{add-one}
 use native.Mathlib.Omega.{arith}
-use lib.ListN.{length, get_or, take, drop, set, length-append, length-take, length-drop, take-append-drop}
+use lib.ListN.{length, get_or, take, drop, set, length-append, length-take, length-drop, take-append-drop, drop_of_length-le}
 use lib.Seq.{append_snoc, set_at, set_split, take_at, drop_at, take-suc, take_all, drop-drop, length-take-le}
+use Rattle.std.proofs.lemmas.List.{drop-set}
+use borrow.Rule.Slice.PartMut.{put_mid}
 use Rattle.lists.specs.Lists.{written}
+use Rattle.lists.proofs.Tests.{by_below}
 use Rattle.rounds.specs.Plans.{Sheet, sheet, sheets}
 use Rattle.lines.specs.Replies.{decimal_of, slot_text, place_line, place_lines, text_of}
 use Rattle.lines.specs.InnerLines.{Put, line_of, reply_of}
@@ -78,87 +81,72 @@ put_written xs old text p = (put_then first p).bytes
     first : Put old 0 xs (written xs old) (length xs)
     first = record { within = omega arith; next_is = omega arith; bytes = refl }
 
--- ---- a loop that copies a text
+-- a text in the places of a list, which were lent for it
+pub put_places : (l text part : List ℕ) (at k next : ℕ) → at + length text ≤ length l → k ≡ length text → next ≡ at + length text → part ≡ text
+    → Put l at text (put_mid at k l part) next
+unfolding written
+put_places l text part at k next h e n p = rw (e, n, p) (record { within = omega arith; next_is = refl; bytes = refl })
 
-pub put_start : (l text : List ℕ) (at : ℕ) → at ≤ length l → Put l at (take 0 text) l (at + 0)
-put_start l text at h = let e : at + 0 ≡ at = omega arith in rw e (put_none l at h)
+-- ---- a loop that writes the digits of n, from the last to the first
 
-pub put_more : (l d text : List ℕ) (at i : ℕ) → i < length text → at + i < length d → Put l at (take i text) d (at + i)
-    → Put l at (take (i + 1) text) (set d (at + i) (get_or text i 0)) (at + (i + 1))
-put_more l d text at i h k p =
-    let e : at + (i + 1) ≡ at + i + 1 = omega arith in
-    let f : take (i + 1) text ≡ take i text ++ (get_or text i 0 ∷ []) = rw (add-one, take-suc text i 0 h) in
-    rw (e, f) (put_then p (put_byte d (at + i) (get_or text i 0) k))
+-- From the place i on stand the last ones; those of left, if any, are not written yet.
+pub record Spelling (n : ℕ) (list : List ℕ) (i left : ℕ) : Type 0 where
+  pub front : List ℕ
+  pub digits : decimal_of n ≡ front ++ drop i list
+  pub place : i ≡ length front
+  pub more : 0 < i → front ≡ decimal_of left
 
-pub put_whole : (l d text : List ℕ) (at i : ℕ) → length text ≤ i → Put l at (take i text) d (at + i) → Put l at text d (at + i)
-put_whole l d text at i h p = rw (take_all i text h) at p
+pub spelling_start : (n : ℕ) (list : List ℕ) → length list ≡ length (decimal_of n) → Spelling n list (length list) n
+spelling_start n list h = record {
+  front = decimal_of n;
+  digits = rw (drop_of_length-le list {i = length list} (omega arith)) (sym (append-nil (decimal_of n)));
+  place = h;
+  more = λ _. refl;
+}
 
--- ---- a loop that puts the digits of n, from the last to the first
+module _ (n : ℕ) (list : List ℕ) (i left : ℕ) (s : Spelling n list (suc i) left) (inside : i < length list) where
+  behind : (b : ℕ) → drop i (set list i b) ≡ b ∷ drop (suc i) list
+  behind b = drop-set list i b inside ∙ ap (λ (k : ℕ). b ∷ drop k list) (add-one i)
 
--- Those of left are not put yet: from the place i on stand the others, and what stood behind them.
-pub record Spelling (old : List ℕ) (at n : ℕ) (list : List ℕ) (i left : ℕ) : Type 0 where
-  pub rest : List ℕ
-  pub digits : decimal_of n ≡ decimal_of left ++ rest
-  pub place : i ≡ at + length (decimal_of left)
-  pub list_is : list ≡ take i old ++ (rest ++ drop (at + length (decimal_of n)) old)
+  ones : left < 10 → 48 + left ≡ 48 + left % 10
+  ones l = omega arith
 
-pub spelling_start : (old : List ℕ) (at n : ℕ) → Spelling old at n old (at + length (decimal_of n)) n
-spelling_start old at n =
-    record {
-      rest = [];
-      digits = sym (append-nil (decimal_of n));
-      place = refl;
-      list_is = sym (take-append-drop (at + length (decimal_of n)) old);
-    }
-
--- a digit written in front of the others
-front_set : (old rest : List ℕ) (i b : ℕ) → i < length old → set (take (suc i) old ++ rest) i b ≡ take i old ++ b ∷ rest
-front_set old rest i b h =
-    rw (take-suc old i 0 h, append_snoc) (set_at (take i old) (get_or old i 0) rest b i (length-take-le i old (omega arith)))
-
-module _ (old : List ℕ) (at n : ℕ) (list : List ℕ) (i left : ℕ) (s : Spelling old at n list i left) (fits : at + length (decimal_of n) ≤ length old) where
-  long : length (decimal_of n) ≡ length (decimal_of left) + length s.rest
-  long = ap length s.digits ∙ length-append (decimal_of left) s.rest
-
-  -- the place for the next digit is in the list, and behind the text's start
-  pub spelling_place : (at < i) × (i ≤ length old)
-  spelling_place = (omega (arith, s.place, decimal_pos left), omega (arith, s.place, long))
-
-  pub length_spelling : length list ≡ length old
-  length_spelling =
-      ap length s.list_is ∙ simp (length-append, length-take, length-drop) (omega (arith, s.place, long))
-
-  put_digit : (b : ℕ) → set list (i - 1) b ≡ take (i - 1) old ++ b ∷ (s.rest ++ drop (at + length (decimal_of n)) old)
-  put_digit b =
-      let p = spelling_place in
-      let e : i ≡ suc (i - 1) = omega (arith, p.0) in
-      let rest = s.rest ++ drop (at + length (decimal_of n)) old in
-      let is : list ≡ take (suc (i - 1)) old ++ rest = s.list_is ∙ ap (λ (k : ℕ). take k old ++ rest) e in
-      ap (λ (l : List ℕ). set l (i - 1) b) is ∙ front_set old rest (i - 1) b (omega (arith, p.0, p.1))
-
-  pub spelling_turn : 10 ≤ left → left < 10 ^ 10 → Spelling old at n (set list (i - 1) (48 + left % 10)) (i - 1) (left / 10)
-  spelling_turn g h =
+  spelling_turn : left < 10 ^ 10 → Spelling n (set list i (48 + left % 10)) i (left / 10)
+  spelling_turn h =
+      let d : s.front ≡ decimal_of left = s.more (omega arith) in
+      let p = s.place in
       let last = 48 + left % 10 in
-      let cut : decimal_of left ≡ decimal_of (left / 10) ++ (last ∷ []) = decimal_snoc left g h in
-      let count : length (decimal_of left) ≡ length (decimal_of (left / 10)) + 1 = ap length cut ∙ length-append (decimal_of (left / 10)) (last ∷ []) in
+      by_below left 10
+      (λ l. let one : decimal_of left ≡ (48 + left) ∷ [] = decimal_one left l in
       record {
-        rest = last ∷ s.rest;
-        digits = s.digits ∙ ap (λ (l : List ℕ). l ++ s.rest) cut ∙ append_snoc (decimal_of (left / 10)) last s.rest;
-        place = omega (arith, s.place, count);
-        list_is = put_digit last;
-      }
+        front = [];
+        digits = s.digits ∙ ap (λ (f : List ℕ). f ++ drop (suc i) list) (d ∙ one) ∙ ap (λ (b : ℕ). b ∷ drop (suc i) list) (ones l) ∙ sym (behind last);
+        place = omega (arith, ap length (d ∙ one));
+        more = λ z. absurd (omega (arith, z, ap length (d ∙ one)));
+      })
+      (λ l. let cut : decimal_of left ≡ decimal_of (left / 10) ++ (last ∷ []) = decimal_snoc left l h in
+      record {
+        front = decimal_of (left / 10);
+        digits =
+            s.digits
+            ∙ ap (λ (f : List ℕ). f ++ drop (suc i) list) (d ∙ cut)
+            ∙ append_snoc (decimal_of (left / 10)) last (drop (suc i) list)
+            ∙ ap (λ (r : List ℕ). decimal_of (left / 10) ++ r) (sym (behind last));
+        place = omega (arith, ap length (d ∙ cut), length-append (decimal_of (left / 10)) (last ∷ []));
+        more = λ _. refl;
+      })
 
-  pub spelling_end : left < 10 → Put old at (decimal_of n) (set list (i - 1) (48 + left)) (at + length (decimal_of n))
-  spelling_end h =
-      let cut : decimal_of left ≡ (48 + left) ∷ [] = decimal_one left h in
-      let e : i - 1 ≡ at = omega (arith, s.place, ap length cut) in
-      let all : decimal_of n ≡ (48 + left) ∷ s.rest = s.digits ∙ ap (λ (l : List ℕ). l ++ s.rest) cut in
-      put_of
-      (omega arith)
-      refl
-      (put_digit (48 + left)
-      ∙ ap (λ (k : ℕ). take k old ++ (48 + left) ∷ (s.rest ++ drop (at + length (decimal_of n)) old)) e
-      ∙ ap (λ (l : List ℕ). take at old ++ (l ++ drop (at + length (decimal_of n)) old)) (sym all))
+pub spelling_more : (n : ℕ) (list : List ℕ) (i left : ℕ) → Spelling n list i left → 0 < i → i ≤ length list → left < 10 ^ 10 → Spelling n (set list (i - 1) (48 + left % 10)) (i - 1) (left / 10)
+spelling_more n list i left s p q h =
+    let e : i ≡ suc (i - 1) = omega arith in
+    spelling_turn n list (i - 1) left (subst (λ (k : ℕ). Spelling n list k left) e s) (omega arith) h
+
+pub spelling_end : (n : ℕ) (list : List ℕ) (left : ℕ) → Spelling n list 0 left → list ≡ decimal_of n
+spelling_end n list left s = sym (s.digits ∙ ap (λ (f : List ℕ). f ++ list) (nothing s.front s.place))
+  where
+    nothing : (f : List ℕ) → 0 ≡ length f → f ≡ []
+    nothing [] e = refl
+    nothing (x ∷ f) e = absurd (omega arith)
 
 -- ---- the lines of a plan
 

@@ -7,6 +7,7 @@ use Rattle.lists.specs.Lists.{written}
 use Rattle.lines.specs.declared.commands.Command.{Command}
 use Rattle.rounds.specs.Plans.{sheets}
 use Rattle.lines.specs.Replies.{Reply, opened, admitted, nothing, joined, withdrawn, planned, refused}
+use Rattle.lines.specs.declared.texts.Text.{Text}
 use Rattle.lines.specs.declared.texts.Answer.{Answer}
 use Rattle.lines.specs.declared.texts.Answer.TheVariants as answer
 use Rattle.lines.specs.declared.texts.Output.{Output}
@@ -51,3 +52,15 @@ pub record Put (before : List ℕ) (at : ℕ) (text after : List ℕ) (next : �
   pub within : at ≤ length before
   pub next_is : next ≡ at + length text
   pub bytes : after ≡ take at before ++ written text (drop at before)
+
+-- so many bytes more
+abbrev pub HasRoom : Text → ℕ → Type 0
+HasRoom t n = t.len + n ≤ length t.out.now
+
+-- texts in the same list, which keeps its length
+abbrev pub SameList : Text → Text → Type 0
+SameList t t' = (t'.out.ghost_name ≡ t.out.ghost_name) × (length t'.out.now ≡ length t.out.now)
+
+-- a text that has grown by another
+abbrev pub Puts : Text → List ℕ → Text → Type 0
+Puts t text t' = Put t.out.now t.len text t'.out.now t'.len

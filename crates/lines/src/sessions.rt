@@ -5,7 +5,8 @@ ghost use Rattle.lines.specs.Sessions.{site, world, respond};
 ghost use Rattle.lines.specs.Streams.{held_most, progress, room_for, world_of, after_call, feed_call, end_call, BuffersAfter};
 ghost use Rattle.lines.specs.InnerSessions.{Holds, Says, Stepped, Took};
 
-use crate::{calls, commands, texts};
+use crate::texts::Text;
+use crate::{calls, commands};
 use rounds::round::Round;
 
 // The round that an accepted open made, if there was one.
@@ -83,10 +84,11 @@ fn answer(
     let a = calls::heard(current, asked, list, table, locations, terminals, scratch);
     let after = a.current;
     let output = a.output;
-    let put = texts::put_output(out, at, output, locations, terminals);
+    let mut text = Text { out, len: at };
+    text.push_output(output, locations, terminals);
     Replied {
         current: after,
-        put,
+        put: text.len,
     }
 }
 

@@ -1,0 +1,29 @@
+-- `lines::texts::Text::push_answer` meets its contract.
+-- Assumes nothing.
+use Rattle.lines.specs.Replies.{text_of}
+use Rattle.lines.proofs.texts.Text.push_answer.Goals as goal
+
+pub returns-in-Opened-clause-puts : goal.returns-in-Opened-clause-puts
+unfolding text_of
+returns-in-Opened-clause-puts c =
+    rw c.in-Opened.is c.push_bytes.ensures.puts
+
+pub returns-in-Nothing-clause-puts : goal.returns-in-Nothing-clause-puts
+unfolding text_of
+returns-in-Nothing-clause-puts c =
+    rw c.in-Nothing.is c.push_bytes-in-Nothing.ensures.puts
+
+pub returns-in-Joined-clause-puts : goal.returns-in-Joined-clause-puts
+unfolding text_of
+returns-in-Joined-clause-puts c =
+    rw c.in-Joined.is c.push_one.ensures.puts
+
+pub returns-in-Withdrawn-clause-puts : goal.returns-in-Withdrawn-clause-puts
+unfolding text_of
+returns-in-Withdrawn-clause-puts c =
+    rw c.in-Withdrawn.is c.push_one-in-Withdrawn.ensures.puts
+
+pub returns-in-Refused-clause-puts : goal.returns-in-Refused-clause-puts
+unfolding text_of
+returns-in-Refused-clause-puts c =
+    rw c.in-Refused.is c.push_one-in-Refused.ensures.puts
