@@ -10,11 +10,12 @@ use Rattle.lines.specs.InnerLines.{Printable}
 use Rattle.lines.specs.InnerSessions.{said_by, refused_by, spoken_of, act_by}
 use Rattle.lines.specs.declared.commands.Command.{Command}
 use Rattle.lines.specs.declared.commands.Command.TheVariants as command
-use Rattle.lines.specs.declared.sessions.Current.{Current}
+use Rattle.std.specs.Prelude.{Option}
+use Rattle.rounds.specs.declared.round.Round.{Round}
 use Rattle.lines.specs.declared.calls.Answered.{Answered}
 use Rattle.lines.specs.declared.calls.Acted.{Acted}
 
-module _ (c : Current) (l t l' t' ls ts : List ℕ) (places : ℕ) (cmd : Told Command) where
+module _ (c : Option Round) (l t l' t' ls ts : List ℕ) (places : ℕ) (cmd : Told Command) where
   abbrev before : World
   before = world (site c l t) ls ts places
 

@@ -18,15 +18,12 @@ use Rattle.lists.proofs.Tests.{by_test, by_below}
 use Rattle.lines.specs.Replies.{text_of}
 use Rattle.lines.specs.Commands.{parse_call}
 use Rattle.lines.specs.Sessions.{World, world, site, Response, respond, answered}
-use Rattle.lines.specs.Streams.{Progress, progress, byte, fed_part, fed_up_to, room_for, count, AfterFeed, after_feed, world_of, after_call, feed_call, end_call, BuffersAfter}
+use Rattle.lines.specs.Streams.{Progress, progress, byte, fed_part, fed_up_to, room_for, count, AfterFeed, after_feed, feed_call, end_call}
 use Rattle.lines.specs.InnerLines.{reply_of, Put}
-use Rattle.lines.specs.InnerSessions.{act_by, Holds, Says, Stepped, Took}
+use Rattle.lines.specs.InnerSessions.{act_by, Holds, Stepped, Took}
 use Rattle.lines.specs.declared.commands.Command.{Command}
 use Rattle.lines.specs.declared.calls.Acted.{Acted}
-use Rattle.lines.specs.declared.sessions.Session.{Session}
-use Rattle.lines.specs.declared.sessions.Fed.{Fed}
-use Rattle.lines.specs.declared.sessions.Feeding.TheVariants as feeding
-use Rattle.lines.proofs.PutLaws.{put_none, put_fits, put_written, length_output}
+use Rattle.lines.proofs.PutLaws.{put_none, put_written}
 use Rattle.lines.proofs.HeldLaws.{take_cut, respond_first}
 use Rattle.lines.proofs.StreamLaws.{byte_line, byte_held}
 
@@ -34,7 +31,7 @@ use Rattle.lines.proofs.StreamLaws.{byte_line, byte_held}
 
 -- what a line leaves and what it puts out
 abbrev pub Hears : Response → World → List ℕ → ℕ → List ℕ → ℕ → Type 0
-Hears h w out at out' put = (w ≡ h.world) × Says h.reply out at out' put
+Hears h w out at out' put = (w ≡ h.world) × Put out at (text_of h.reply) out' put
 
 pub response_same : {h h' : Response} {w : World} {out out' : List ℕ} {at put : ℕ} → h ≡ h' → Hears h w out at out' put → Hears h' w out at out' put
 response_same {h} {h'} {w} {out} {out'} {at} {put} e x = subst (λ (z : Response). Hears z w out at out' put) e x
@@ -42,11 +39,9 @@ response_same {h} {h'} {w} {out} {out'} {at} {put} e x = subst (λ (z : Response
 -- the command is done, and what it says is put out
 pub response_act : (w : World) (bytes : List ℕ) (cmd : Told Command) (a : Acted) (l t ls ts : List ℕ) (places : ℕ) (out out' : List ℕ) (at put : ℕ)
     → cmd ≡ parse_call bytes → act_by a l t ls ts places ≡ answered w cmd → Put out at (text_of (reply_of a.output ls ts)) out' put
-    → at + room_for ls ≤ length out → Hears (respond w bytes) (world (site a.current l t) ls ts places) out at out' put
+    → Hears (respond w bytes) (world (site a.current l t) ls ts places) out at out' put
 unfolding respond parse_call
-response_act w bytes cmd a l t ls ts places out out' at put e is p room =
-    response_same (is ∙ ap (answered w) e)
-    (refl, record { puts = p; fits = put_fits p (omega (arith, length_output a.output ls ts)) })
+response_act w bytes cmd a l t ls ts places out out' at put e is p = response_same (is ∙ ap (answered w) e) (refl, p)
 
 -- nothing is held, and the line is what is there
 pub response_bare : (w : World) (line bytes : List ℕ) (held : ℕ) → held ≡ 0 → respond w bytes ≡ respond w (take 81 (take held line ++ bytes))
@@ -137,8 +132,7 @@ module _ (bytes : List ℕ) (w : World) (line out : List ℕ) (held at e : ℕ) 
         some = omega arith;
         inside = omega arith;
         text = text_of a.reply;
-        puts = x.1.puts;
-        fits = x.1.fits;
+        puts = x.1;
         is = λ most m.
             let n : length (take at out) ≤ most = omega (arith, length-take at out) in
             let g : end_of bytes < length bytes = omega arith in
@@ -146,7 +140,7 @@ module _ (bytes : List ℕ) (w : World) (line out : List ℕ) (held at e : ℕ) 
             ap (λ (l : List ℕ). fed_up_to most (progress w l (take at out)) bytes) (held_few line held few)
             ∙ feed_line most w (take at out) n (take held line) bytes g
             ∙ ap (λ (z : Response). fed_up_to most (progress z.world [] (take at out ++ text_of z.reply)) (drop (suc (end_of bytes)) bytes)) q
-            ∙ ap (λ (l : List ℕ). fed_up_to most (progress a.world [] l) (drop (suc (end_of bytes)) bytes)) (sym (put_take x.1.puts))
+            ∙ ap (λ (l : List ℕ). fed_up_to most (progress a.world [] l) (drop (suc (end_of bytes)) bytes)) (sym (put_take x.1))
             ∙ ap (λ (v : World). fed_up_to most (progress v [] (take put out')) (drop (suc (end_of bytes)) bytes)) (sym x.0)
             ∙ ap (λ (i : ℕ). fed_up_to most (progress w' [] (take put out')) (drop i bytes)) (ap suc (sym is) ∙ sym (add-one e));
       }
@@ -160,7 +154,6 @@ module _ (bytes : List ℕ) (w : World) (line out : List ℕ) (held at e : ℕ) 
     inside = omega arith;
     text = [];
     puts = put_none out at a;
-    fits = a;
     is = λ most m.
         let q : length (take at out) ≤ most = omega (arith, length-take at out) in
         let g : length bytes ≤ end_of bytes = omega arith in
@@ -187,8 +180,8 @@ going_start most w piece line out held h = record { few = h; inside = omega arit
 module _ (most : ℕ) (start : Progress) (piece before : List ℕ) (w : World) (line out : List ℕ) (held taken put : ℕ) (g : Going most start piece before w line out held taken put) where
   -- another line
   pub going_more : (bytes : List ℕ) (w' : World) (line' out' : List ℕ) (held' n put' : ℕ) → put ≤ most → bytes ≡ drop taken piece
-      → Stepped bytes w line out held put w' line' out' held' n put' → Going most start piece before w' line' out' held' (taken + n) put'
-  going_more bytes w' line' out' held' n put' m b s =
+      → put' ≤ length out' → Stepped bytes w line out held put w' line' out' held' n put' → Going most start piece before w' line' out' held' (taken + n) put'
+  going_more bytes w' line' out' held' n put' m b f s =
       let size : length (take put out) ≡ put = length-take-le put out g.fits in
       let puts : Put (written (take put out) before) (length (take put out)) s.text out' put' =
       subst (λ (x : List ℕ). Put x (length (take put out)) s.text out' put') g.same
@@ -197,7 +190,7 @@ module _ (most : ℕ) (start : Progress) (piece before : List ℕ) (w : World) (
       record {
         few = s.few;
         inside = omega (arith, g.inside, within, length-drop taken piece);
-        fits = s.fits;
+        fits = f;
         same = put_written (take put out) before s.text puts ∙ ap (λ (x : List ℕ). written x before) (sym (put_take s.puts));
         on =
             ap (fed_up_to most (progress w' (take held' line') (take put' out'))) (sym (ap (drop n) b ∙ drop-drop n taken piece))
@@ -275,13 +268,6 @@ module _ (w : World) (line piece out : List ℕ) (held : ℕ) where
           c,
           ← t.same,
         )
-
--- a refusal: nothing has changed
-pub feed_refused : (f : Fed) (s : Session) (c : ℕ) → f ≡ record { session = s; feeding = feeding.Refused c }
-    → (l t ls ts scratch line out : List ℕ) (x : AfterFeed) → after_feed (refusal c) (world_of s l t ls ts scratch) (take s.held line) s.held out ≡ x
-    → (after_call f (world_of f.session l t ls ts scratch) line out ≡ x) × BuffersAfter f.feeding line line scratch scratch
-feed_refused f s c e l t ls ts scratch line out x is =
-    subst (λ (z : Fed). (after_call z (world_of z.session l t ls ts scratch) line out ≡ x) × BuffersAfter z.feeding line line scratch scratch) (sym e) (is, (refl, refl))
 
 -- ---- the end
 

@@ -30,11 +30,10 @@ use Rattle.lines.specs.InnerSessions.{said_by, refused_by, outcome_of, plan_by, 
 use Rattle.lines.specs.declared.texts.Answer.{Answer}
 use Rattle.lines.specs.declared.texts.Output.{Output}
 use Rattle.lines.specs.declared.calls.Answered.{Answered}
-use Rattle.lines.specs.declared.sessions.Current.{Current}
-use Rattle.lines.specs.declared.sessions.Current.TheVariants as current
+use Rattle.std.specs.Prelude.{Option, Some, None}
 
 -- a refused call changes nothing
-said_refused : (a : Answered) (c : Current) (w : ℕ) (l t : List ℕ) → a ≡ refused_by c w → said_by a l t ≡ said (Replies.refused w) (site c l t)
+said_refused : (a : Answered) (c : Option Round) (w : ℕ) (l t : List ℕ) → a ≡ refused_by c w → said_by a l t ≡ said (Replies.refused w) (site c l t)
 said_refused a c w l t q = ap (λ (x : Answered). said_by x l t) q
 
 -- ---- open
@@ -47,8 +46,8 @@ open_keeps key k n l w =
     (λ c e. refl)
     (λ r l' h e. not_said w (round_of r (Slots.map_of 0)) (sym e))
 
-module _ (key k n : ℕ) (l after : List ℕ) (o : Opened) (is : after_open (told_opened o) after ≡ open_call key k n l) (c : Current) where
-  pub opens_made : (r : Round) → o ≡ opened.Made r → (t : List ℕ) → said Replies.opened (site (current.Open r) after t) ≡ open_line key k n (site c l t)
+module _ (key k n : ℕ) (l after : List ℕ) (o : Opened) (is : after_open (told_opened o) after ≡ open_call key k n l) (c : Option Round) where
+  pub opens_made : (r : Round) → o ≡ opened.Made r → (t : List ℕ) → said Replies.opened (site (Some r) after t) ≡ open_line key k n (site c l t)
   unfolding open_line
   opens_made r e t =
       ap (λ (x : Opened). replaced (site c l t) (told_opened x) after) (sym e)
@@ -66,14 +65,14 @@ module _ (key k n : ℕ) (l after : List ℕ) (o : Opened) (is : after_open (tol
 -- ---- admit, join, withdraw
 
 -- before an open, and after one
-none_yet : {A : Type 0} (c : Current) (before : A) (f : Round → A) → c ≡ current.Nothing → before ≡ on_round c before f
-none_yet c before f e = ap (λ (x : Current). on_round x before f) (sym e)
+none_yet : {A : Type 0} (c : Option Round) (before : A) (f : Round → A) → c ≡ None → before ≡ on_round c before f
+none_yet c before f e = ap (λ (x : Option Round). on_round x before f) (sym e)
 
-on_round_lem : {A : Type 0} (c : Current) (r : Round) (before : A) (f : Round → A) → c ≡ current.Open r → f r ≡ on_round c before f
-on_round_lem c r before f e = ap (λ (x : Current). on_round x before f) (sym e)
+on_round_lem : {A : Type 0} (c : Option Round) (r : Round) (before : A) (f : Round → A) → c ≡ Some r → f r ≡ on_round c before f
+on_round_lem c r before f e = ap (λ (x : Option Round). on_round x before f) (sym e)
 
-module _ (c : Current) (l t : List ℕ) where
-  module _ (a : Answered) (q : a ≡ refused_by c 12) (e : c ≡ current.Nothing) where
+module _ (c : Option Round) (l t : List ℕ) where
+  module _ (a : Answered) (q : a ≡ refused_by c 12) (e : c ≡ None) where
     pub admit_none : said_by a l t ≡ admit_line (site c l t)
     unfolding admit_line
     admit_none = said_refused a c 12 l t q ∙ none_yet c _ _ e
@@ -86,29 +85,29 @@ module _ (c : Current) (l t : List ℕ) where
     unfolding withdraw_line
     withdraw_none x = said_refused a c 12 l t q ∙ none_yet c _ _ e
 
-  module _ (r : Round) (e : c ≡ current.Open r) (x : Answer) where
+  module _ (r : Round) (e : c ≡ Some r) (x : Answer) where
     pub admit_on : (a : Admission) (l' : List ℕ) → admission a l' t ≡ admit_call (state r l t) → line_of x ≡ replied exchange_reply (Reservoir.told_exchange a.exchange)
-        → said (line_of x) (site (current.Open a.round) l' t) ≡ admit_line (site c l t)
+        → said (line_of x) (site (Some a.round) l' t) ≡ admit_line (site c l t)
     unfolding admit_line
     admit_on a l' is told =
-        ap (λ (y : Replies.Reply). said y (site (current.Open a.round) l' t)) told
+        ap (λ (y : Replies.Reply). said y (site (Some a.round) l' t)) told
         ∙ ap (said_of exchange_reply) is
         ∙ on_round_lem c r _ _ e
 
     pub join_on : (a : Joining) (t' : List ℕ) → joining a l t' ≡ join_call (state r l t) → line_of x ≡ replied Replies.joined (Slots.told_slot a.slot)
-        → said (line_of x) (site (current.Open a.round) l t') ≡ join_line (site c l t)
+        → said (line_of x) (site (Some a.round) l t') ≡ join_line (site c l t)
     unfolding join_line
     join_on a t' is told =
-        ap (λ (y : Replies.Reply). said y (site (current.Open a.round) l t')) told
+        ap (λ (y : Replies.Reply). said y (site (Some a.round) l t')) told
         ∙ ap (said_of Replies.joined) is
         ∙ on_round_lem c r _ _ e
 
     pub withdraw_on : (s : ℕ) (a : Withdrawal) (t' : List ℕ) → withdrawal a l t' ≡ withdraw_call (state r l t) s
         → line_of x ≡ replied (λ u. Replies.withdrawn s) (Slots.told_outcome a.outcome)
-        → said (line_of x) (site (current.Open a.round) l t') ≡ withdraw_line s (site c l t)
+        → said (line_of x) (site (Some a.round) l t') ≡ withdraw_line s (site c l t)
     unfolding withdraw_line
     withdraw_on s a t' is told =
-        ap (λ (y : Replies.Reply). said y (site (current.Open a.round) l t')) told
+        ap (λ (y : Replies.Reply). said y (site (Some a.round) l t')) told
         ∙ ap (said_of (λ u. Replies.withdrawn s)) is
         ∙ on_round_lem c r _ _ e
 
@@ -133,13 +132,13 @@ unfolding shown_plan
 shown_output outcome.Done k ls ts = refl
 shown_output (outcome.Refused w) k ls ts = refl
 
-pub plan_none : (c : Current) (l t ls ts : List ℕ) (places : ℕ) → c ≡ current.Nothing
+pub plan_none : (c : Option Round) (l t ls ts : List ℕ) (places : ℕ) → c ≡ None
     → response (Replies.refused 12) (world (site c l t) ls ts places) ≡ planned (site c l t) ls ts places
 unfolding plan_line
 plan_none c l t ls ts places e = none_yet c _ _ e
 
 module _ (l t ls ts ls' ts' : List ℕ) (places : ℕ) (r : Round) (o : Outcome) (is : after_plan (told_outcome o) ls' ts' ≡ plan_call (state r l t) ls ts places) (p : Output) (q : p ≡ outcome_of o r.k) where
-  pub plan_on : (c : Current) → c ≡ current.Open r → plan_by p (site c l t) ls' ts' places ≡ planned (site c l t) ls ts places
+  pub plan_on : (c : Option Round) → c ≡ Some r → plan_by p (site c l t) ls' ts' places ≡ planned (site c l t) ls ts places
   unfolding plan_line
   plan_on c e =
       ap (λ (x : Output). plan_by x (site c l t) ls' ts' places) q

@@ -1,17 +1,17 @@
 -- What private functions promise of a session. No public promise cites this file.
 -- Assumes nothing.
-use Rattle.std.specs.Prelude.{◌≡◌, List, ℕ, ◌≤◌, ◌<◌, length, take, drop}
+use Rattle.std.specs.Prelude.{◌≡◌, List, ℕ, ◌≤◌, ◌<◌, length, take, drop, Option}
 use Rattle.lists.specs.Lists.{written}
+use Rattle.rounds.specs.declared.round.Round.{Round}
 use Rattle.choosers.specs.declared.node_map.Outcome.{Outcome}
 use Rattle.choosers.specs.declared.node_map.Outcome.TheVariants as outcome
 use Rattle.lines.specs.Sessions.{Site, site, Said, said, World, world, Response, response, plan_line}
-use Rattle.lines.specs.Replies.{Reply, text_of}
+use Rattle.lines.specs.Replies.{Reply}
 use Rattle.lines.specs.Streams.{held_most, Progress, progress, fed_part, fed_up_to}
 use Rattle.lines.specs.InnerLines.{line_of, reply_of, Put}
 use Rattle.lines.specs.declared.texts.Answer.TheVariants as answer
 use Rattle.lines.specs.declared.texts.Output.{Output}
 use Rattle.lines.specs.declared.texts.Output.TheVariants as output
-use Rattle.lines.specs.declared.sessions.Current.{Current}
 use Rattle.lines.specs.declared.calls.Answered.{Answered}
 use Rattle.lines.specs.declared.calls.Acted.{Acted}
 
@@ -20,7 +20,7 @@ abbrev pub said_by : Answered → List ℕ → List ℕ → Said
 said_by a l t = said (line_of a.answer) (site a.current l t)
 
 -- a refusal, and the round as it was
-abbrev pub refused_by : Current → ℕ → Answered
+abbrev pub refused_by : Option Round → ℕ → Answered
 refused_by c w = record { current = c; answer = answer.Refused w }
 
 -- a plan's outcome as output
@@ -48,11 +48,6 @@ pub record Holds (m : ℕ) (line bytes : List ℕ) : Type 0 where
   pub size : m ≡ length bytes
   pub holds : take m line ≡ bytes
 
--- a reply's text is put into the list, which is long enough
-pub record Says (r : Reply) (before : List ℕ) (at : ℕ) (after : List ℕ) (next : ℕ) : Type 0 where
-  pub puts : Put before at (text_of r) after next
-  pub fits : next ≤ length after
-
 -- Some bytes are taken, and a text is put into the list: as far as they go it is all that is fed.
 pub record Stepped (bytes : List ℕ) (w : World) (line out : List ℕ) (held at : ℕ) (w' : World) (line' out' : List ℕ) (held' taken put : ℕ) : Type 0 where
   pub few : held' ≤ held_most
@@ -60,7 +55,6 @@ pub record Stepped (bytes : List ℕ) (w : World) (line out : List ℕ) (held at
   pub inside : taken ≤ length bytes
   pub text : List ℕ
   pub puts : Put out at text out' put
-  pub fits : put ≤ length out'
   pub is : (most : ℕ) → at ≤ most
       → fed_up_to most (progress w (take held line) (take at out)) bytes ≡ fed_up_to most (progress w' (take held' line') (take put out')) (drop taken bytes)
 

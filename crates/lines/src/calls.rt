@@ -2,21 +2,22 @@
 ghost use Rattle.std.specs.Prelude.{◌≡◌, List, ℕ, length};
 ghost use Rattle.orders.specs.ReservoirCalls.{told_exchange};
 ghost use Rattle.choosers.specs.SlotCalls.{told_slot, told_outcome};
-ghost use Rattle.lines.specs.Replies.{joined, withdrawn};
-ghost use Rattle.lines.specs.Sessions.{site, world, replied, exchange_reply, open_line, admit_line, join_line, withdraw_line, answered};
+ghost use Rattle.lines.specs.Replies.{joined, withdrawn, text_of};
+ghost use Rattle.lines.specs.Sessions.{site, world, replied, exchange_reply, open_line, admit_line, join_line, withdraw_line, answered, respond};
+ghost use Rattle.lines.specs.Streams.{room_for};
 ghost use Rattle.lists.specs.Told.{says};
 ghost use Rattle.answers.specs.Refusals.{told};
-ghost use Rattle.lines.specs.InnerLines.{line_of, Printable};
+ghost use Rattle.lines.specs.InnerLines.{line_of, Printable, HasRoom, SameList, Puts};
 ghost use Rattle.lines.specs.InnerSessions.{said_by, refused_by, plan_by, planned, outcome_of, spoken_of, act_by};
 
+use crate::commands;
 use crate::commands::Command;
-use crate::sessions::Current;
-use crate::texts::{Answer, Output};
+use crate::texts::{Answer, Output, Text};
 use answers::Refusal;
 use choosers::node_map::{Outcome, Slot};
 use orders::consistent_reservoir::Exchange;
 use rounds::round;
-use rounds::round::Opened;
+use rounds::round::{Opened, Round};
 
 // ---- the answers of the round's calls, as lines
 
@@ -53,11 +54,11 @@ fn outcome_line(o: Outcome, slot: u32) -> Answer
 // The round after a call, and its answer.
 #[derive(Drop)]
 pub struct Answered {
-    pub current: Current,
+    pub current: Option<Round>,
     pub answer: Answer,
 }
 
-fn refused(current: Current, w: u32) -> Answered
+fn refused(current: Option<Round>, w: u32) -> Answered
     ensures { result ≡ refused_by current w }
 {
     Answered {
@@ -67,63 +68,63 @@ fn refused(current: Current, w: u32) -> Answered
 }
 
 // The table is not lent to an open.
-fn opens(current: Current, key: u64, k: u32, n: u32, list: &mut [u32]) -> Answered
+fn opens(current: Option<Round>, key: u64, k: u32, n: u32, list: &mut [u32]) -> Answered
     ensures { (t : List ℕ) → said_by result list.new t ≡ open_line key k n (site current list.old t) }
 {
     match round::open(key, k, n, list) {
         Opened::Made(r) => Answered {
-            current: Current::Open(r),
+            current: Some(r),
             answer: Answer::Opened,
         },
         Opened::Refused(w) => refused(current, w),
     }
 }
 
-fn admits(current: Current, list: &mut [u32], table: &[u8]) -> Answered
+fn admits(current: Option<Round>, list: &mut [u32], table: &[u8]) -> Answered
     ensures { said_by result list.new table.now ≡ admit_line (site current list.old table.now) }
 {
     match current {
-        Current::Nothing => refused(current, 12),
-        Current::Open(r) => {
+        None => refused(current, 12),
+        Some(r) => {
             let a = round::admitted(r, list, table);
             let after = a.round;
             let exchange = a.exchange;
             Answered {
-                current: Current::Open(after),
+                current: Some(after),
                 answer: exchange_line(exchange),
             }
         }
     }
 }
 
-fn joins(current: Current, list: &[u32], table: &mut [u8]) -> Answered
+fn joins(current: Option<Round>, list: &[u32], table: &mut [u8]) -> Answered
     ensures { said_by result list.now table.new ≡ join_line (site current list.now table.old) }
 {
     match current {
-        Current::Nothing => refused(current, 12),
-        Current::Open(r) => {
+        None => refused(current, 12),
+        Some(r) => {
             let a = round::joined(r, list, table);
             let after = a.round;
             let slot = a.slot;
             Answered {
-                current: Current::Open(after),
+                current: Some(after),
                 answer: slot_line(slot),
             }
         }
     }
 }
 
-fn withdraws(current: Current, list: &[u32], table: &mut [u8], slot: u32) -> Answered
+fn withdraws(current: Option<Round>, list: &[u32], table: &mut [u8], slot: u32) -> Answered
     ensures { said_by result list.now table.new ≡ withdraw_line slot (site current list.now table.old) }
 {
     match current {
-        Current::Nothing => refused(current, 12),
-        Current::Open(r) => {
+        None => refused(current, 12),
+        Some(r) => {
             let a = round::withdrawn(r, list, table, slot);
             let after = a.round;
             let outcome = a.outcome;
             Answered {
-                current: Current::Open(after),
+                current: Some(after),
                 answer: outcome_line(outcome, slot),
             }
         }
@@ -140,7 +141,7 @@ fn plan_output(o: Outcome, k: u32) -> Output
 }
 
 fn plans(
-    current: Current,
+    current: Option<Round>,
     list: &[u32],
     table: &[u8],
     locations: &mut [u32],
@@ -151,8 +152,8 @@ fn plans(
     ensures printable { Printable result locations.new terminals.new }
 {
     match current {
-        Current::Nothing => Output::Line(Answer::Refused(12)),
-        Current::Open(r) => plan_output(
+        None => Output::Line(Answer::Refused(12)),
+        Some(r) => plan_output(
             round::plan(r, list, table, locations, terminals, scratch),
             r.k,
         ),
@@ -162,7 +163,7 @@ fn plans(
 // The round after a line, and what is put out for it.
 #[derive(Drop)]
 pub struct Acted {
-    pub current: Current,
+    pub current: Option<Round>,
     pub output: Output,
 }
 
@@ -179,7 +180,7 @@ fn spoken(a: Answered) -> Acted
 
 // What a command does.
 fn act(
-    current: Current,
+    current: Option<Round>,
     command: Command,
     list: &mut [u32],
     table: &mut [u8],
@@ -202,9 +203,8 @@ fn act(
     }
 }
 
-// What is done for what a line asks.
-pub(crate) fn heard(
-    current: Current,
+fn heard(
+    current: Option<Round>,
     asked: Result<Command, Refusal>,
     list: &mut [u32],
     table: &mut [u8],
@@ -216,7 +216,34 @@ pub(crate) fn heard(
     ensures printable { Printable result.output locations.new terminals.new }
 {
     match asked {
-        Ok(command) => act(current, command, list, table, locations, terminals, scratch),
+        Ok(command) => act(
+            current, command, list, table, locations, terminals, scratch,
+        ),
         Err(why) => spoken(refused(current, why.number())),
     }
+}
+
+// Answers a line: what is put out stands behind the text so far. The lists come one by one, since there is no rule yet for two
+// shared loans out of a struct that is lent itself.
+pub(crate) fn answer(
+    current: &mut Option<Round>,
+    line: &[u8],
+    list: &mut [u32],
+    table: &mut [u8],
+    locations: &mut [u32],
+    terminals: &mut [u32],
+    scratch: &mut [u64],
+    text: &mut Text,
+)
+    requires { HasRoom text.old (room_for locations.old) }
+    ensures lent { SameList text.old text.new }
+    ensures world_after { world (site current.new list.new table.new) locations.new terminals.new (length scratch.old) ≡ (respond (world (site current.old list.old table.old) locations.old terminals.old (length scratch.old)) line.now).world }
+    ensures says { Puts text.old (text_of (respond (world (site current.old list.old table.old) locations.old terminals.old (length scratch.old)) line.now).reply) text.new }
+{
+    let asked = commands::parse(line);
+    let acted = heard(
+        *current, asked, list, table, locations, terminals, scratch,
+    );
+    *current = acted.current;
+    text.push_output(acted.output, locations, terminals);
 }

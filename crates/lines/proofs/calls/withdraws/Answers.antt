@@ -3,10 +3,10 @@
 use Rattle.lines.proofs.LineLaws.{withdraw_none, withdraw_on}
 use Rattle.lines.proofs.calls.withdraws.Goals as goal
 
-pub returns-in-Nothing : goal.returns-in-Nothing
-returns-in-Nothing c = withdraw_none _ _ _ c.refused.result c.refused.ensures c.in-Nothing.is _
+pub returns-in-None : goal.returns-in-None
+returns-in-None c = withdraw_none _ _ _ c.refused.result c.refused.ensures c.in-None.is _
 
-pub returns-in-Open : goal.returns-in-Open
-returns-in-Open c = let call = c.withdrawn-a in
-    let given = c.in-Open.is in
+pub returns-in-Some : goal.returns-in-Some
+returns-in-Some c = let call = c.withdrawn-a in
+    let given = c.in-Some.is in
     withdraw_on _ _ _ _ given c.outcome_line.result _ call.result _ call.ensures c.outcome_line.ensures
