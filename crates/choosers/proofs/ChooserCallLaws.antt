@@ -1,25 +1,26 @@
 -- The chooser's calls by their cases.
 -- Assumes nothing.
-use mathlib.Core.Path.{◌≡◌, sym, ap, ◌∙◌}
-use mathlib.Core.Bool.{true, false, ◌||◌}
+use mathlib.Core.Path.{◌≡◌, refl, sym, ap, ◌∙◌}
+use mathlib.Core.Bool.{Bool, true, false, cond, ◌||◌}
 use mathlib.Core.Logic.{◌≢◌}
 use mathlib.Core.List.{List, ◌++◌}
-use mathlib.Core.Option.{some, none}
+use mathlib.Core.Option.{Option, some, none}
 use Prim.Native.Nat.{ℕ, suc, ◌+◌, ◌-◌, ◌^◌, ◌≤◌, ◌<◌}
 use native.Mathlib.Omega.{arith}
-use borrow.Author.Tests.{lt-ltb, le-ltb, le-leb, lt-leb, eq-eqb, ne_eqb}
+use borrow.Author.Tests.{lt-ltb, le-ltb, le-leb, lt-leb, eq-eqb, ne_eqb, ltb-false}
 use lib.Dec.{ltb, eqb}
 use lib.ListN.{length, get_or, drop, length-append, length-drop}
 use lib.Seq.{length-take-le}
-use Rattle.lists.specs.Told.{says}
+use Rattle.lists.specs.Told.{Told, refusal, says, map_told}
 use Rattle.lists.specs.Lists.{last, written}
-use Rattle.lists.proofs.Tests.{by_cond}
+use Rattle.lists.proofs.Tests.{by_cond, by_below}
+use Rattle.lists.proofs.Tolds.{not_said, said_same, refusal_same}
 use Rattle.lists.proofs.Ascending.{length_snoc, last_take}
 use Rattle.lists.proofs.Writing.{written_at}
 use Rattle.choosers.specs.declared.choose_k.ConsistentChooseKHasher.{ConsistentChooseKHasher}
 use Rattle.choosers.specs.Choosers.{g, Moved, moved, lower_at, lower, shrink, grow}
 use Rattle.choosers.specs.ChooserCalls.{samples_of, chooser_of, fitting, After, after, refused, tested, grown_by, grow_call, next_call, shrink_call}
-use Rattle.choosers.specs.InnerChoosers.{grow_in}
+use Rattle.choosers.specs.InnerChoosers.{tests, grown, grow_in}
 use Rattle.choosers.proofs.CheckLaws.{Parts, fits_parts}
 use Rattle.choosers.proofs.CountLaws.{counts_yes, counts_no}
 use Rattle.choosers.proofs.TurnLaws.{lower_length, lower_index, lower_take}
@@ -44,16 +45,50 @@ grow_index s xs n =
     (λ _. omega arith)
     (λ _. lower_index s (length xs) xs (last xs))
 
+-- ---- the tests that all calls on a record have, by how two tests go
+
+refused_by : (c : ConsistentChooseKHasher) (l : List ℕ) {A : Type 0} (a : After A) (w : ℕ) (fit high : Bool)
+    → ◌≡◌ {A = Told (Unit {0})} (refusal w) (cond fit (cond high (refusal 1) (says tt)) (refusal 12))
+    → refused w c l ≡ cond fit (cond high (refused 1 c l) a) (refused 12 c l)
+refused_by c l a w true true e = ap (λ (w : ℕ). refused w c l) (refusal_same w 1 e)
+refused_by c l a w true false e = not_said w tt e
+refused_by c l a w false high e = ap (λ (w : ℕ). refused w c l) (refusal_same w 12 e)
+
+passed_by : (fit high : Bool) → ◌≡◌ {A = Told (Unit {0})} (says tt) (cond fit (cond high (refusal 1) (says tt)) (refusal 12)) → (fit ≡ true) × (high ≡ false)
+passed_by true true e = not_said 1 tt (sym e)
+passed_by true false e = (refl, refl)
+passed_by false high e = not_said 12 tt (sym e)
+
+-- what `next` says where one sample more came in: the number at its index
+abbrev pub drawn : After ℕ → After (Option ℕ)
+drawn a = after (map_told (λ i. some (get_or a.list i 0)) a.told) a.chooser a.list
+
 module _ (c : ConsistentChooseKHasher) (l : List ℕ) where
   -- ---- the tests that all have: 12, then 1
 
-  pub tested_unfit : {A : Type 0} (a : After A) → fitting c l ≡ false → refused 12 c l ≡ tested c l a
-  unfolding tested
-  tested_unfit a e = rw e
+  pub tests_unfit : fitting c l ≡ false → refusal 12 ≡ tests c l
+  unfolding tests
+  tests_unfit e = rw e
 
-  pub tested_above : {A : Type 0} (a : After A) → fitting c l ≡ true → 2 ^ 62 < c.n → refused 1 c l ≡ tested c l a
-  unfolding tested
-  tested_above a e h = rw (e, lt-ltb (2 ^ 62) c.n h)
+  pub tests_above : fitting c l ≡ true → 2 ^ 62 < c.n → refusal 1 ≡ tests c l
+  unfolding tests
+  tests_above e h = rw (e, lt-ltb (2 ^ 62) c.n h)
+
+  pub tests_pass : fitting c l ≡ true → c.n ≤ 2 ^ 62 → says tt ≡ tests c l
+  unfolding tests
+  tests_pass e h = rw (e, le-ltb (2 ^ 62) c.n h)
+
+  -- what they refuse, every call refuses
+  pub tests_refuse : {A : Type 0} (a : After A) (w : ℕ) → refusal w ≡ tests c l → refused w c l ≡ tested c l a
+  unfolding tests tested
+  tests_refuse a w e = refused_by c l a w (fitting c l) (ltb (2 ^ 62) c.n) e
+
+  -- what they let pass
+  pub passed : says tt ≡ tests c l → (fitting c l ≡ true) × (c.n ≤ 2 ^ 62)
+  unfolding tests
+  passed e =
+      let p = passed_by (fitting c l) (ltb (2 ^ 62) c.n) e in
+      (p.0, ltb-false (2 ^ 62) c.n p.1)
 
   module _ (ok : fitting c l ≡ true) (small : c.n ≤ 2 ^ 62) where
     pub tested_good : {A : Type 0} (a : After A) → tested c l a ≡ a
@@ -77,10 +112,6 @@ module _ (c : ConsistentChooseKHasher) (l : List ℕ) where
     next_full e = rw (tested_good _, eq-eqb c.k c.n e)
 
     module _ (more : c.k ≢ c.n) where
-      pub grow_short : length l < c.k + 1 → refused 4 c l ≡ grow_call c l
-      unfolding grow_call grown_by
-      grow_short h = rw (tested_good _, ne_eqb c.k c.n more, lt-ltb (length l) (c.k + 1) h)
-
       pub next_short : length l < c.k + 1 → refused 4 c l ≡ next_call c l
       unfolding next_call grown_by
       next_short h = rw (tested_good _, ne_eqb c.k c.n more, lt-ltb (length l) (c.k + 1) h)
@@ -102,9 +133,9 @@ module _ (c : ConsistentChooseKHasher) (l : List ℕ) where
         pub index_within : i ≤ c.k
         index_within = omega (arith, index_is, grow_index c.state (samples_of c l) c.n, long)
 
-        pub grow_done : after (says i) (chooser_of c.state c.n (c.k + 1)) now ≡ grow_call c l
-        unfolding grow_call grown_by
-        grow_done = rw (tested_good _, ne_eqb c.k c.n more, le-ltb (length l) (c.k + 1) room, now_is, index_is)
+        pub grown_done : after (says i) (chooser_of c.state c.n (c.k + 1)) now ≡ grown c l
+        unfolding grown grown_by
+        grown_done = rw (le-ltb (length l) (c.k + 1) room, now_is, index_is)
 
         pub next_done : after (says (some (get_or now i 0))) (chooser_of c.state c.n (c.k + 1)) now ≡ next_call c l
         unfolding next_call grown_by
@@ -120,6 +151,35 @@ module _ (c : ConsistentChooseKHasher) (l : List ℕ) where
     grown_length room =
         length-append (grow c.state (samples_of c l) c.n).samples (drop (suc c.k) l)
         ∙ rw length-drop (omega (arith, grow_length c.state (samples_of c l) c.n, long))
+
+    -- ---- one sample more, as one function of the code makes it
+
+    pub grown_short : length l ≤ c.k → refused 4 c l ≡ grown c l
+    unfolding grown grown_by
+    grown_short h = rw (lt-ltb (length l) (c.k + 1) (omega arith))
+
+    module _ (more : c.k ≢ c.n) where
+      pub grow_is : grow_call c l ≡ grown c l
+      unfolding grow_call grown
+      grow_is = rw (tested_good _, ne_eqb c.k c.n more)
+
+      pub next_is : next_call c l ≡ drawn (grown c l)
+      next_is =
+          by_below (length l) (c.k + 1)
+          (λ h. sym (next_short more h) ∙ ap drawn (grown_short (omega arith)))
+          (λ h. sym (next_done more h _ _ refl) ∙ ap drawn (grown_done more h _ _ refl))
+
+      -- the index that is answered lies in the list
+      pub grown_index : (i : ℕ) (c' : ConsistentChooseKHasher) (l' : List ℕ) → after (says i) c' l' ≡ grown c l → i < length l'
+      grown_index i c' l' e =
+          by_below (length l) (c.k + 1)
+          (λ h. let z : refusal 4 ≡ says i = ap (λ (a : After ℕ). a.told) (grown_short (omega arith) ∙ sym e) in not_said 4 i z)
+          (λ h.
+          let now = grow_in c.state c.k l c.n in
+          let d : after (says now.index) (chooser_of c.state c.n (c.k + 1)) now.samples ≡ after (says i) c' l' = grown_done more h _ _ refl ∙ sym e in
+          let at : now.index ≡ i = said_same now.index i (ap (λ (a : After ℕ). a.told) d) in
+          let long : length now.samples ≡ length l' = ap (λ (a : After ℕ). length a.list) d in
+          omega (arith, at, long, grown_length h, index_within more h now.samples now.index refl))
 
     -- ---- shrink
 

@@ -1,23 +1,28 @@
 -- What get answers, by its tests; and that it finds a slot where one is active.
 -- Assumes nothing.
-use mathlib.Core.Path.{◌≡◌, sym, ap, ◌∙◌}
+use Rattle.std.specs.Prelude.{Option, Some, None, Result, ok_or}
+use Rattle.answers.specs.declared.Refusal.{Refusal}
+use Rattle.answers.specs.declared.Refusal.TheVariants.{NoneActive}
+use Rattle.answers.specs.Refusals.{told}
+use mathlib.Core.Path.{◌≡◌, refl, sym, ap, subst, ◌∙◌}
 use mathlib.Core.Logic.{◌≢◌}
 use mathlib.Core.Bool.{true, false, not, true≢false}
 use mathlib.Core.List.{List, [], ◌∷◌}
-use mathlib.Core.Option.{none, some}
+use mathlib.Core.Option.{none}
 use Prim.Native.Nat.{ℕ, ◌≤◌, ◌<◌, min}
 use native.Mathlib.Omega.{arith}
 use borrow.Author.Tests.{lt-ltb, le-ltb, ne_eqb}
 use lib.Dec.{eqb}
 use lib.ListN.{length}
 use lib.Seq.{take_all}
-use Rattle.lists.specs.Told.{refusal, says}
+use Rattle.lists.specs.Told.{refusal}
 use Rattle.lists.specs.Lists.{find}
 use Rattle.lists.proofs.Having.{has_head}
 use Rattle.choosers.specs.declared.node_map.ConsistentNodeMap.{ConsistentNodeMap}
 use Rattle.choosers.specs.Choosers.{Q}
 use Rattle.choosers.specs.Slots.{active, actives, holder, slot_among}
-use Rattle.choosers.specs.SlotCalls.{slot_limit, fitting, look_up, or_none, get_call}
+use Rattle.answers.specs.Refusals.{optional}
+use Rattle.choosers.specs.SlotCalls.{slot_limit, fitting, look_up, or_none, get_call, ScratchAfter}
 use Rattle.choosers.proofs.OrderLaws.{length_Q}
 use Rattle.choosers.proofs.SlotCallLaws.{fits_parts}
 use Rattle.choosers.proofs.SlotLaws.{holder_slot, slot_none, slot_some}
@@ -30,6 +35,11 @@ among_none s (x ∷ A) e = absurd (true≢false (sym (e ∙ ap not (ne_eqb (leng
 among_some : (s : ℕ) (A : List ℕ) → true ≡ not (eqb (length A) 0) → slot_among s A ≢ none
 among_some s [] e = absurd (true≢false e)
 among_some s (x ∷ A) e = slot_some s (x ∷ A) x (has_head x A)
+
+-- the code's answer from what a lookup finds
+looked_or_none : (o : Option ℕ) → told (ok_or o NoneActive) ≡ or_none (optional o)
+looked_or_none None = refl
+looked_or_none (Some x) = refl
 
 module _ (m : ConsistentNodeMap) (t : List ℕ) (s places : ℕ) where
   pub get_unfit : fitting m t ≡ false → get_call m t s places ≡ refusal 12
@@ -56,11 +66,18 @@ module _ (m : ConsistentNodeMap) (t : List ℕ) (s places : ℕ) where
       pub get_none : false ≡ not (eqb (length (actives t m.total)) 0) → get_call m t s places ≡ refusal 11
       get_none e = is_holder ∙ ap or_none (holder_slot s t m.total ∙ among_none s (actives t m.total) e)
 
-      pub get_found : (x : ℕ) → look_up m.total t s places ≡ some x → get_call m t s places ≡ says x
-      get_found x e = is_holder ∙ ap or_none (sym look_all ∙ e)
+      -- what is looked up is what get says
+      pub get_looked : (o : Option ℕ) → optional o ≡ look_up m.total t s places → told (ok_or o NoneActive) ≡ get_call m t s places
+      get_looked o e = looked_or_none o ∙ ap or_none (e ∙ look_all) ∙ sym is_holder
 
-      pub get_some : true ≡ not (eqb (length (actives t m.total)) 0) → look_up m.total t s places ≢ none
+      get_some : true ≡ not (eqb (length (actives t m.total)) 0) → look_up m.total t s places ≢ none
       get_some e n = among_some s (actives t m.total) e (sym (holder_slot s t m.total) ∙ sym look_all ∙ n)
+
+      -- where one is active get is not refused, so the scratch is free
+      pub scratch_looked : true ≡ not (eqb (length (actives t m.total)) 0) → (o : Option ℕ) → optional o ≡ look_up m.total t s places
+          → (r : Result ℕ Refusal) → r ≡ ok_or o NoneActive → (before now : List ℕ) → length now ≡ length before → ScratchAfter r before now
+      scratch_looked e None q r is before now h = absurd (get_some e (sym q))
+      scratch_looked e (Some x) q r is before now h = subst (λ (r : Result ℕ Refusal). ScratchAfter r before now) (sym is) h
 
 -- ---- what get says, for whoever calls it with scratch enough
 

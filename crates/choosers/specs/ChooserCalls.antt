@@ -5,14 +5,6 @@ use Rattle.std.proofs.Math.Option.{Option, none, some}
 use Rattle.lists.specs.Told.{Told, refusal, says}
 use Rattle.lists.specs.Lists.{last, lacked, written}
 use Rattle.choosers.specs.declared.choose_k.ConsistentChooseKHasher.{ConsistentChooseKHasher}
-use Rattle.choosers.specs.declared.choose_k.Chosen.{Chosen}
-use Rattle.choosers.specs.declared.choose_k.Place.{Place}
-use Rattle.choosers.specs.declared.choose_k.Placed.{Placed}
-use Rattle.choosers.specs.declared.choose_k.Draw.{Draw}
-use Rattle.choosers.specs.declared.choose_k.Drawn.{Drawn}
-use Rattle.choosers.specs.declared.choose_k.Chosen.TheVariants as chosen
-use Rattle.choosers.specs.declared.choose_k.Place.TheVariants as place
-use Rattle.choosers.specs.declared.choose_k.Draw.TheVariants as draw
 use Rattle.choosers.specs.Choosers.{S, Moved, grow, shrink}
 
 abbrev pub chooser_of : ℕ → ℕ → ℕ → ConsistentChooseKHasher
@@ -41,10 +33,6 @@ pub record AfterNew : Type 0 where
 abbrev pub after_new : Told ConsistentChooseKHasher → List ℕ → AfterNew
 after_new t l = record { told = t; list = l }
 
-abbrev pub told_chosen : Chosen → Told ConsistentChooseKHasher
-told_chosen (chosen.Made c) = says c
-told_chosen (chosen.Refused w) = refusal w
-
 -- 1: "n above .. 2^62 (hashes, choosers)"
 unfoldable pub new_call : ℕ → ℕ → Told ConsistentChooseKHasher
 new_call s n = cond (ltb (2 ^ 62) n) (refusal 1) (says (chooser_of s n 0))
@@ -71,21 +59,6 @@ after t c l = record { told = t; chooser = c; list = l }
 -- a refusal changes nothing
 abbrev pub refused : {A : Type 0} → ℕ → ConsistentChooseKHasher → List ℕ → After A
 refused w c l = after (refusal w) c l
-
-abbrev pub told_place : Place → Told ℕ
-told_place (place.Index i) = says i
-told_place (place.Refused w) = refusal w
-
-abbrev pub placed : Placed → List ℕ → After ℕ
-placed p l = after (told_place p.place) p.chooser l
-
-abbrev pub told_draw : Draw → Told (Option ℕ)
-told_draw (draw.Sample x) = says (some x)
-told_draw draw.Nothing = says none
-told_draw (draw.Refused w) = refusal w
-
-abbrev pub drawn : Drawn → List ℕ → After (Option ℕ)
-drawn d l = after (told_draw d.draw) d.chooser l
 
 -- the record fits its list and has no n above the limit: 12, then 1
 unfoldable pub tested : {A : Type 0} → ConsistentChooseKHasher → List ℕ → After A → After A

@@ -1,18 +1,20 @@
 -- What private functions of the choosers leave. No public promise cites it.
 -- Assumes nothing.
-use Rattle.std.specs.Prelude.{◌≡◌, ◌⊎◌, List, ◌++◌, ℕ, suc, ◌^◌, ◌<◌, ◌≤◌, get_or, take, drop}
+use Rattle.std.specs.Prelude.{◌≡◌, ◌⊎◌, cond, List, ◌++◌, ℕ, suc, ◌^◌, ltb, ◌<◌, ◌≤◌, get_or, take, drop}
+use Rattle.lists.specs.Told.{Told, refusal, says}
 use Rattle.choosers.specs.declared.choose_k.ConsistentChooseKHasher.{ConsistentChooseKHasher}
-use Rattle.choosers.specs.declared.choose_k.Placed.{Placed}
-use Rattle.choosers.specs.declared.choose_k.Drawn.{Drawn}
-use Rattle.choosers.specs.declared.choose_k.Place.TheVariants as place
-use Rattle.choosers.specs.declared.choose_k.Draw.TheVariants as draw
 use Rattle.choosers.specs.Choosers.{g, Moved, moved, grow}
+use Rattle.choosers.specs.ChooserCalls.{samples_of, fitting, After, grown_by}
 
-abbrev pub refused_place : ConsistentChooseKHasher → ℕ → Placed
-refused_place c w = record { chooser = c; place = place.Refused w }
+-- what the tests say that every call on a record begins with
+unfoldable pub tests : ConsistentChooseKHasher → List ℕ → Told (Unit {0})
+tests c l = cond (fitting c l) (cond (ltb (2 ^ 62) c.n) (refusal 1) (says tt)) (refusal 12)
 
-abbrev pub refused_draw : ConsistentChooseKHasher → ℕ → Drawn
-refused_draw c w = record { chooser = c; draw = draw.Refused w }
+-- one sample more, where the tests are passed and not all n are there
+unfoldable pub grown : ConsistentChooseKHasher → List ℕ → After ℕ
+grown c l =
+    let m = grow c.state (samples_of c l) c.n in
+    grown_by c l m m.index
 
 -- grow of the first k entries of a list: one entry more is written, the rest stands
 unfoldable pub grow_in : ℕ → ℕ → List ℕ → ℕ → Moved

@@ -1,22 +1,11 @@
 -- What the slot map's calls say and leave, on any count and any table.
 -- Assumes nothing.
-use Rattle.std.specs.Prelude.{◌≡◌, Bool, cond, ◌||◌, ◌&&◌, List, ℕ, ◌+◌, min, ltb, leb, eqb, length, set, take}
-use Rattle.std.proofs.Math.Option.{Option, none, some}
+use Rattle.std.specs.Prelude.{◌≡◌, Bool, cond, ◌||◌, ◌&&◌, List, ℕ, ◌+◌, min, ltb, leb, eqb, length, set, take, Result, Ok, Err}
+use Rattle.std.proofs.Math.Option as maybe
 use Rattle.lists.specs.Told.{Told, refusal, says}
 use Rattle.lists.specs.Lists.{every, find}
+use Rattle.answers.specs.declared.Refusal.{Refusal}
 use Rattle.choosers.specs.declared.node_map.ConsistentNodeMap.{ConsistentNodeMap}
-use Rattle.choosers.specs.declared.node_map.Slot.{Slot}
-use Rattle.choosers.specs.declared.node_map.Added.{Added}
-use Rattle.choosers.specs.declared.node_map.Outcome.{Outcome}
-use Rattle.choosers.specs.declared.node_map.Removed.{Removed}
-use Rattle.choosers.specs.declared.node_map.Count.{Count}
-use Rattle.choosers.specs.declared.node_map.Truth.{Truth}
-use Rattle.choosers.specs.declared.node_map.Looked.{Looked}
-use Rattle.choosers.specs.declared.node_map.Slot.TheVariants as slot
-use Rattle.choosers.specs.declared.node_map.Outcome.TheVariants as outcome
-use Rattle.choosers.specs.declared.node_map.Count.TheVariants as count
-use Rattle.choosers.specs.declared.node_map.Truth.TheVariants as truth
-use Rattle.choosers.specs.declared.node_map.Looked.TheVariants as looked
 use Rattle.choosers.specs.Choosers.{Q}
 use Rattle.choosers.specs.Slots.{active, actives, vacant, holder}
 
@@ -49,13 +38,6 @@ after w m t = record { told = w; map = m; table = t }
 abbrev pub refused : {A : Type 0} → ℕ → ConsistentNodeMap → List ℕ → After A
 refused w m t = after (refusal w) m t
 
-abbrev pub told_slot : Slot → Told ℕ
-told_slot (slot.Number x) = says x
-told_slot (slot.Refused w) = refusal w
-
-abbrev pub added : Added → List ℕ → After ℕ
-added a t = after (told_slot a.slot) a.map t
-
 -- "Add takes the lowest deleted slot below the count, else the count, then one higher, and sets its byte to 1". 9: "add with no
 -- deleted slot and the count at the table's length, or 65,536".
 unfoldable pub add_call : ConsistentNodeMap → List ℕ → After ℕ
@@ -67,13 +49,6 @@ add_call m t =
     (cond (eqb c (length t) || eqb c slot_limit) (refused 9 m t)
     (after (says c) (map_of (c + 1)) (set t c 1))))
     (refused 12 m t)
-
-abbrev pub told_outcome : Outcome → Told (Unit {0})
-told_outcome outcome.Done = says tt
-told_outcome (outcome.Refused w) = refusal w
-
-abbrev pub removed : Removed → List ℕ → After (Unit {0})
-removed r t = after (told_outcome r.outcome) r.map t
 
 -- "Remove of the last slot lowers the count by one only and writes no byte; of another it sets the byte to 0." 10: "remove of a
 -- slot not active".
@@ -92,14 +67,6 @@ remove_call m t x =
 unfoldable pub queried : {A : Type 0} → ConsistentNodeMap → List ℕ → A → Told A
 queried m t a = cond (fitting m t) (says a) (refusal 12)
 
-abbrev pub told_count : Count → Told ℕ
-told_count (count.Number x) = says x
-told_count (count.Refused w) = refusal w
-
-abbrev pub told_truth : Truth → Told Bool
-told_truth (truth.Is b) = says b
-told_truth (truth.Refused w) = refusal w
-
 abbrev pub len_call : ConsistentNodeMap → List ℕ → Told ℕ
 len_call m t = queried m t (length (actives t m.total))
 
@@ -111,18 +78,14 @@ is_active_call m t x = queried m t (active t m.total x)
 
 -- ---- get
 
-abbrev pub told_looked : Looked → Option ℕ
-told_looked (looked.Found x) = some x
-told_looked looked.Missing = none
-
 -- the lookup without the record's tests: of the numbers of Q(count) as many as the scratch has places
-unfoldable pub look_up : ℕ → List ℕ → ℕ → ℕ → Option ℕ
+unfoldable pub look_up : ℕ → List ℕ → ℕ → ℕ → maybe.Option ℕ
 look_up c t s places = find (active t c) (take places (Q s c))
 
 -- "11 get .. with none active"
-abbrev pub or_none : Option ℕ → Told ℕ
-or_none none = refusal 11
-or_none (some x) = says x
+abbrev pub or_none : maybe.Option ℕ → Told ℕ
+or_none maybe.none = refusal 11
+or_none (maybe.some x) = says x
 
 -- 4: "scratch shorter than the smaller of the table's length and 65,536"
 unfoldable pub get_call : ConsistentNodeMap → List ℕ → ℕ → ℕ → Told ℕ
@@ -132,6 +95,6 @@ get_call m t s places =
     (refusal 12)
 
 -- "the scratch is free after an accepted get .., unchanged after a refused one"; it keeps its length
-abbrev pub ScratchAfter : Slot → List ℕ → List ℕ → Type 0
-ScratchAfter (slot.Number x) before now = length now ≡ length before
-ScratchAfter (slot.Refused w) before now = now ≡ before
+abbrev pub ScratchAfter : Result ℕ Refusal → List ℕ → List ℕ → Type 0
+ScratchAfter (Ok x) before now = length now ≡ length before
+ScratchAfter (Err why) before now = now ≡ before

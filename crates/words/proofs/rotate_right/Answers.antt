@@ -7,4 +7,4 @@ use Rattle.words.proofs.rotate_right.Goals as goal
 
 pub returns : goal.returns
 unfolding rotate_right
-returns c = by_shifts c.args.x (c.args.places % 64) (omega arith) (omega arith)
+returns c = rw c.rotate_right.ensures (by_shifts c.args.x (c.args.places % 64) (omega arith) (omega arith))

@@ -5,4 +5,4 @@ use Rattle.words.proofs.splitmix64.Goals as goal
 
 pub returns : goal.returns
 unfolding mix
-returns c = rw (c.wrapping_mul-x.ensures, c.wrapping_mul-y.ensures, c.wrapping_add_u64-z.ensures.value)
+returns c = rw (c.wrapping_mul-x.ensures, c.wrapping_mul-y.ensures)

@@ -5,9 +5,10 @@ use mathlib.Core.Bool.{true}
 use Prim.Native.Nat.{◌≤◌, min}
 use native.Mathlib.Omega.{arith}
 use lib.ListN.{length}
-use Rattle.choosers.specs.SlotCalls.{slot_limit, fitting, told_looked}
+use Rattle.answers.specs.Refusals.{told}
+use Rattle.choosers.specs.SlotCalls.{slot_limit, fitting}
 use Rattle.choosers.proofs.SlotCallLaws.{fits_parts}
-use Rattle.choosers.proofs.GetLaws.{get_unfit, get_short, get_none, get_found, get_some}
+use Rattle.choosers.proofs.GetLaws.{get_unfit, get_short, get_none, get_looked, scratch_looked}
 use Rattle.choosers.proofs.node_map.ConsistentNodeMap.get.Goals as goal
 use Rattle.choosers.proofs.node_map.ConsistentNodeMap.get.Goals.{Else-not-fits, Else-scratch-places}
 
@@ -40,15 +41,12 @@ returns-then-not-any c =
       scratch_after = refl;
     }
 
-pub returns-in-Found : goal.returns-in-Found
-returns-in-Found c =
+pub returns : goal.returns
+returns c =
+    let fit = ok (goal.at.returns c).Else-not-fits in
+    let long = enough (goal.at.returns c).Else-scratch-places in
     record {
-      answer = sym (get_found _ _ _ _ (ok (goal.at.returns-in-Found c).Else-not-fits) (enough (goal.at.returns-in-Found c).Else-scratch-places) c.in-Found.x (sym c.first_active.ensures ∙ ap told_looked c.in-Found.is));
-      scratch_after = c.first_active.auto.scratch;
+      answer = ap told c.ok_or.ensures.value ∙ get_looked _ _ _ _ fit long _ c.first_active.ensures;
+      -- one is active, so it is found
+      scratch_after = scratch_looked _ _ _ _ fit long (sym (c.if-not-any.false) ∙ c.any.ensures) _ c.first_active.ensures _ c.ok_or.ensures.value _ _ c.first_active.auto.scratch;
     }
-
--- one is active, so it is not missing
-pub returns-in-Missing : goal.returns-in-Missing
-returns-in-Missing c =
-    let one = sym (c.if-not-any.false) ∙ c.any.ensures in
-    absurd (get_some _ _ _ _ (ok (goal.at.returns-in-Missing c).Else-not-fits) (enough (goal.at.returns-in-Missing c).Else-scratch-places) one (sym c.first_active.ensures ∙ ap told_looked c.in-Missing.is))
