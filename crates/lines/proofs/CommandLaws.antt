@@ -7,10 +7,10 @@ use mathlib.Core.List.{List, [], ◌∷◌}
 use mathlib.Core.Option.{none, some}
 use Rattle.std.specs.Prelude.{Option, Some, None, Result, Ok, Err}
 use Rattle.std.specs.Option.{ok_or}
-use Rattle.answers.specs.Refusals.{told}
+use Rattle.answers.specs.Refusals.{told, optional}
 use Rattle.answers.specs.declared.Refusal.TheVariants.{Misfit}
 use Rattle.std.specs.Result.{OkIff, result_ok}
-use Rattle.lines.specs.InnerLines.{found, told_form}
+use Rattle.lines.specs.InnerLines.{told_form}
 use Prim.Native.Nat.{ℕ, ◌+◌, ◌-◌, ◌*◌, ◌^◌, ◌≤◌, ◌<◌}
 use native.Mathlib.Nat.{pow-le-pow_right, mul-le-mul_left}
 use native.Mathlib.Numerals.{add-one}
@@ -89,7 +89,7 @@ unfolding within
 over a e b p = rw (lt-leb b e p) (and-false (leb a b))
 
 -- a number that a narrower type takes, or not
-pub narrowed : {E : Type 0} (v : ℕ) (r : Result ℕ E) → OkIff r (v < 2 ^ 32) v → found (result_ok r) ≡ below32 (some v)
+pub narrowed : {E : Type 0} (v : ℕ) (r : Result ℕ E) → OkIff r (v < 2 ^ 32) v → optional (result_ok r) ≡ below32 (some v)
 narrowed v (Ok x) h = rw (lt-ltb v (2 ^ 32) h.0, h.1)
 narrowed v (Err e) h = rw (le-ltb v (2 ^ 32) (omega (arith, h)))
 

@@ -20,9 +20,8 @@ use Rattle.lines.specs.Commands.{parse_call}
 use Rattle.lines.specs.Sessions.{World, world, site, Response, respond, answered}
 use Rattle.lines.specs.Streams.{Progress, progress, byte, fed_part, fed_up_to, room_for, count, AfterFeed, after_feed, feed_call, end_call}
 use Rattle.lines.specs.InnerLines.{reply_of, Put}
-use Rattle.lines.specs.InnerSessions.{act_by, Holds, Stepped, Took}
+use Rattle.lines.specs.InnerSessions.{Holds, Stepped, Took}
 use Rattle.lines.specs.declared.commands.Command.{Command}
-use Rattle.lines.specs.declared.calls.Acted.{Acted}
 use Rattle.lines.proofs.PutLaws.{put_none, put_written}
 use Rattle.lines.proofs.HeldLaws.{take_cut, respond_first}
 use Rattle.lines.proofs.StreamLaws.{byte_line, byte_held}
@@ -32,16 +31,6 @@ use Rattle.lines.proofs.StreamLaws.{byte_line, byte_held}
 -- what a line leaves and what it puts out
 abbrev pub Hears : Response → World → List ℕ → ℕ → List ℕ → ℕ → Type 0
 Hears h w out at out' put = (w ≡ h.world) × Put out at (text_of h.reply) out' put
-
-pub response_same : {h h' : Response} {w : World} {out out' : List ℕ} {at put : ℕ} → h ≡ h' → Hears h w out at out' put → Hears h' w out at out' put
-response_same {h} {h'} {w} {out} {out'} {at} {put} e x = subst (λ (z : Response). Hears z w out at out' put) e x
-
--- the command is done, and what it says is put out
-pub response_act : (w : World) (bytes : List ℕ) (cmd : Told Command) (a : Acted) (l t ls ts : List ℕ) (places : ℕ) (out out' : List ℕ) (at put : ℕ)
-    → cmd ≡ parse_call bytes → act_by a l t ls ts places ≡ answered w cmd → Put out at (text_of (reply_of a.output ls ts)) out' put
-    → Hears (respond w bytes) (world (site a.current l t) ls ts places) out at out' put
-unfolding respond parse_call
-response_act w bytes cmd a l t ls ts places out out' at put e is p = response_same (is ∙ ap (answered w) e) (refl, p)
 
 -- nothing is held, and the line is what is there
 pub response_bare : (w : World) (line bytes : List ℕ) (held : ℕ) → held ≡ 0 → respond w bytes ≡ respond w (take 81 (take held line ++ bytes))

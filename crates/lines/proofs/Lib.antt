@@ -8,7 +8,6 @@ pub mod TextExamples
 pub mod HeldLaws
 pub mod StreamLaws
 pub mod LineLaws
-pub mod ActLaws
 pub mod FeedLaws
 pub mod PartLaws
 pub mod RunLaws

@@ -14,11 +14,12 @@ use Rattle.lists.specs.Lists.{written}
 use Rattle.lists.proofs.Tests.{by_below}
 use Rattle.rounds.specs.Plans.{Sheet, sheet, sheets}
 use Rattle.lines.specs.Replies.{decimal_of, slot_text, place_line, place_lines, text_of}
-use Rattle.lines.specs.InnerLines.{Put, line_of, reply_of}
-use Rattle.lines.specs.declared.texts.Answer.{Answer}
-use Rattle.lines.specs.declared.texts.Answer.TheVariants as answer
-use Rattle.lines.specs.declared.texts.Output.{Output}
-use Rattle.lines.specs.declared.texts.Output.TheVariants as output
+use Rattle.lines.specs.InnerLines.{Put, Puts}
+use Rattle.lines.specs.declared.texts.Text.{Text}
+use Rattle.std.specs.Prelude as rust
+use Rattle.std.specs.List.{zip, range_with_len}
+use Rattle.std.proofs.lemmas.Iterator.{YieldsList}
+use Rattle.lines.proofs.FieldLaws.{next_some, next_none}
 use Rattle.lines.proofs.DecimalLaws.{decimal_one, decimal_snoc, decimal_pos, length_decimal, length_tabbed}
 
 -- ---- one text after another
@@ -150,43 +151,27 @@ spelling_end n list left s = sym (s.digits ∙ ap (λ (f : List ℕ). f ++ list)
 
 -- ---- the lines of a plan
 
--- one place more
-sheets_more : (i : ℕ) (ls ts : List ℕ) → i < length ls → i < length ts
-    → sheets (take (suc i) ls) (take (suc i) ts) ≡ sheets (take i ls) (take i ts) ++ (sheet (get_or ls i 0) (some (get_or ts i 0)) ∷ [])
-sheets_more i [] ts h k = absurd (omega arith)
-sheets_more i (x ∷ ls) [] h k = absurd (omega arith)
-sheets_more zero (x ∷ ls) (t ∷ ts) h k = refl
-sheets_more (suc i) (x ∷ ls) (t ∷ ts) h k =
-    ap (λ (l : List Sheet). sheet x (some t) ∷ l) (sheets_more i ls ts (omega arith) (omega arith))
+-- those of places, each with its location and its slot
+abbrev pub lines : List (ℕ × (ℕ × ℕ)) → List ℕ
+lines [] = []
+lines (p ∷ ps) = place_line p.0 (sheet p.1.0 (some p.1.1)) ++ lines ps
 
-length_sheets : (ls ts : List ℕ) → length (sheets ls ts) ≤ length ls
-length_sheets [] ts = omega arith
-length_sheets (x ∷ ls) [] = omega arith
-length_sheets (x ∷ ls) (t ∷ ts) = omega (arith, length_sheets ls ts)
+-- the first k places of two lists
+pub lines_zip : (a k : ℕ) (ls ts : List ℕ) → place_lines a (sheets (take k ls) (take k ts)) ≡ lines (zip (range_with_len a k) (zip ls ts))
+lines_zip a zero ls ts = refl
+lines_zip a (suc k) [] ts = refl
+lines_zip a (suc k) (x ∷ ls) [] = refl
+lines_zip a (suc k) (x ∷ ls) (t ∷ ts) =
+    ap (λ (l : List ℕ). place_line a (sheet x (some t)) ++ l)
+    (lines_zip (suc a) k ls ts ∙ ap (λ (n : ℕ). lines (zip (range_with_len n k) (zip ls ts))) (sym (add-one a)))
 
-length_sheets_is : (i : ℕ) (ls ts : List ℕ) → i ≤ length ls → i ≤ length ts → length (sheets (take i ls) (take i ts)) ≡ i
-length_sheets_is zero ls ts h k = refl
-length_sheets_is (suc i) [] ts h k = absurd (omega arith)
-length_sheets_is (suc i) (x ∷ ls) [] h k = absurd (omega arith)
-length_sheets_is (suc i) (x ∷ ls) (t ∷ ts) h k = ap suc (length_sheets_is i ls ts (omega arith) (omega arith))
+length_zip : {A B : Type 0} (ks : List A) (vs : List B) → (length (zip ks vs) ≤ length ks) × (length (zip ks vs) ≤ length vs)
+length_zip [] vs = (omega arith, omega arith)
+length_zip (k ∷ ks) [] = (omega arith, omega arith)
+length_zip (k ∷ ks) (v ∷ vs) = let l = length_zip ks vs in (omega (arith, l), omega (arith, l))
 
-lines_more : (place : ℕ) (ss : List Sheet) (s : Sheet) → place_lines place (ss ++ (s ∷ [])) ≡ place_lines place ss ++ place_line (place + length ss) s
-lines_more place [] s =
-    let e : place ≡ place + 0 = omega arith in
-    append-nil (place_line place s) ∙ ap (λ (p : ℕ). place_line p s) e
-lines_more place (x ∷ ss) s =
-    let e : suc place + length ss ≡ place + suc (length ss) = omega arith in
-    ap (λ (l : List ℕ). place_line place x ++ l) (lines_more (suc place) ss s ∙ ap (λ (p : ℕ). place_lines (suc place) ss ++ place_line p s) e)
-    ∙ sym (append_assoc (place_line place x) (place_lines (suc place) ss) (place_line (place + suc (length ss)) s))
-
-pub plan_more : (i : ℕ) (ls ts : List ℕ) → i < length ls → i < length ts
-    → place_lines 0 (sheets (take (i + 1) ls) (take (i + 1) ts))
-    ≡ place_lines 0 (sheets (take i ls) (take i ts)) ++ place_line i (sheet (get_or ls i 0) (some (get_or ts i 0)))
-plan_more i ls ts h k =
-    let ss = sheets (take i ls) (take i ts) in
-    let s = sheet (get_or ls i 0) (some (get_or ts i 0)) in
-    let e : 0 + length ss ≡ i = omega (arith, length_sheets_is i ls ts (omega arith) (omega arith)) in
-    rw (add-one, sheets_more i ls ts h k) (lines_more 0 ss s ∙ ap (λ (p : ℕ). place_lines 0 ss ++ place_line p s) e)
+pub length_places_zip : (ks ls ts : List ℕ) → length (zip ks (zip ls ts)) ≤ length ls
+length_places_zip ks ls ts = omega (arith, length_zip ks (zip ls ts), length_zip ls ts)
 
 -- ---- how long the texts are
 
@@ -198,28 +183,49 @@ pub length_place : (i : ℕ) (s : Sheet) → length (place_line i s) ≤ 33
 unfolding place_line
 length_place i s = simp length-append (omega (arith, length_decimal i, length_tabbed s.location, length_slot s.terminal))
 
-pub length_places : (i : ℕ) (ss : List Sheet) → length (place_lines i ss) ≤ 33 * length ss
-length_places i [] = omega arith
-length_places i (s ∷ ss) = simp length-append (omega (arith, length_place i s, length_places (suc i) ss))
+-- ---- a loop that puts the lines of a plan
 
--- the first i places of a plan
-pub length_plan : (i : ℕ) (ls ts : List ℕ) → length (place_lines 0 (sheets (take i ls) (take i ts))) ≤ 33 * i
-length_plan i ls ts =
-    let ss = sheets (take i ls) (take i ts) in
-    omega (arith, length_places 0 ss, length_sheets (take i ls) (take i ts), length-take i ls)
+-- so far: the iterator still yields the places of the lines that are not put yet
+pub record Listing {S A : Type 0} (steps : S → rust.Option A → S → Type 0) (v : A → ℕ × (ℕ × ℕ)) (it : S) (all : List ℕ) (places : ℕ) (t u : Text) : Type 0 where
+  pub rest : List (ℕ × (ℕ × ℕ))
+  pub yields : YieldsList steps v it rest
+  pub front : List ℕ
+  pub is : all ≡ front ++ lines rest
+  pub puts : Puts t front u
+  pub room : length front + 33 * length rest ≤ 33 * places
 
-pub length_text : (a : Answer) → length (text_of (line_of a)) ≤ 32
-unfolding text_of
-length_text answer.Opened = omega arith
-length_text (answer.Admitted v o) = simp length-append (omega (arith, length_tabbed v, length_tabbed o))
-length_text answer.Nothing = omega arith
-length_text (answer.Joined s) = simp length-append (omega (arith, length_tabbed s))
-length_text (answer.Withdrawn s) = simp length-append (omega (arith, length_tabbed s))
-length_text (answer.Refused c) = simp length-append (omega (arith, length_tabbed c))
+module _ {S A : Type 0} {steps : S → rust.Option A → S → Type 0} {v : A → ℕ × (ℕ × ℕ)} {it : S} (all : List ℕ) (places : ℕ) (t : Text) where
+  pub listing_start : (rest : List (ℕ × (ℕ × ℕ))) → YieldsList steps v it rest → all ≡ lines rest → length rest ≤ places → Listing steps v it all places t t
+  listing_start rest w e l = record {
+    rest = rest;
+    yields = w;
+    front = [];
+    is = e;
+    puts = put_none t.out.now t.len t.fits;
+    room = omega arith;
+  }
 
-pub length_output : (o : Output) (ls ts : List ℕ) → length (text_of (reply_of o ls ts)) ≤ 33 * length ls + 32
-unfolding text_of
-length_output (output.Line a) ls ts = omega (arith, length_text a)
-length_output (output.Plan k) ls ts =
-    let ss = sheets (take k ls) (take k ts) in
-    omega (arith, length_places 0 ss, length_sheets (take k ls) (take k ts), length-take k ls)
+  module _ (u : Text) (l : Listing steps v it all places t u) where
+    pub listing_room : (x : A) (it' : S) → steps it (rust.Some x) it' → t.len + 33 * places ≤ length t.out.now → length u.out.now ≡ length t.out.now → u.len + 33 ≤ length u.out.now
+    listing_room x it' p h e =
+        let n = next_some {t = it'} {x = x} l.yields p in
+        omega (arith, l.puts.next_is, l.room, ap length n.is)
+
+    pub listing_more : (x : A) (it' : S) (u' : Text) → steps it (rust.Some x) it' → Puts u (place_line (v x).0 (sheet (v x).1.0 (some (v x).1.1))) u' → Listing steps v it' all places t u'
+    listing_more x it' u' p puts =
+        let n = next_some {t = it'} {x = x} l.yields p in
+        let line = place_line (v x).0 (sheet (v x).1.0 (some (v x).1.1)) in
+        record {
+          rest = n.rest;
+          yields = n.yields;
+          front = l.front ++ line;
+          is = l.is ∙ ap (λ (r : List (ℕ × (ℕ × ℕ))). l.front ++ lines r) n.is ∙ sym (append_assoc l.front line (lines n.rest));
+          puts = put_then l.puts puts;
+          room = omega (arith, l.room, ap length n.is, length-append l.front line, length_place (v x).0 (sheet (v x).1.0 (some (v x).1.1)));
+        }
+
+    pub listing_end : (it' : S) → steps it rust.None it' → Puts t all u
+    listing_end it' p =
+        let n = next_none {t = it'} l.yields p in
+        let e : all ≡ l.front = l.is ∙ ap (λ (r : List (ℕ × (ℕ × ℕ))). l.front ++ lines r) n ∙ append-nil l.front in
+        rw e l.puts

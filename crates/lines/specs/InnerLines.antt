@@ -1,7 +1,9 @@
 -- What private functions promise of lines and texts. No public promise cites this file.
 -- Assumes nothing.
-use Rattle.std.specs.Prelude.{◌≡◌, List, ◌++◌, ℕ, ◌+◌, ◌≤◌, length, take, drop, Option, Some, None}
-use Rattle.std.proofs.Math.Option as maybe
+use Rattle.std.specs.Prelude.{◌≡◌, List, ◌++◌, ℕ, ◌+◌, ◌≤◌, length, take, drop, Option, Some, None, Result, Ok, Err}
+use Rattle.answers.specs.Refusals.{number}
+use Rattle.answers.specs.declared.Refusal.{Refusal}
+use Rattle.orders.specs.declared.consistent_reservoir.Exchange.{Exchange}
 use Rattle.lists.specs.Told.{Told, refusal, says}
 use Rattle.lists.specs.Lists.{written}
 use Rattle.lines.specs.declared.commands.Command.{Command}
@@ -10,15 +12,8 @@ use Rattle.lines.specs.Replies.{Reply, opened, admitted, nothing, joined, withdr
 use Rattle.lines.specs.declared.texts.Text.{Text}
 use Rattle.lines.specs.declared.texts.Answer.{Answer}
 use Rattle.lines.specs.declared.texts.Answer.TheVariants as answer
-use Rattle.lines.specs.declared.texts.Output.{Output}
-use Rattle.lines.specs.declared.texts.Output.TheVariants as output
 
 -- ---- a line taken apart
-
--- what a call found, if anything
-abbrev pub found : {A : Type 0} → Option A → maybe.Option A
-found (Some x) = maybe.some x
-found None = maybe.none
 
 -- what a form tells of a line: refusal 12 where the line has another
 abbrev pub told_form : Option Command → Told Command
@@ -27,23 +22,23 @@ told_form None = refusal 12
 
 -- ---- an answer as code has it
 
-abbrev pub line_of : Answer → Reply
-line_of answer.Opened = opened
-line_of (answer.Admitted v o) = admitted v o
-line_of answer.Nothing = nothing
-line_of (answer.Joined s) = joined s
-line_of (answer.Withdrawn s) = withdrawn s
-line_of (answer.Refused c) = refused c
+-- "the location in and the one out, or the word none alone"
+abbrev pub admitted_reply : Option Exchange → Reply
+admitted_reply (Some e) = admitted e.enters e.leaves
+admitted_reply None = nothing
 
--- a line, or the first k places of the plan's two lists
-abbrev pub reply_of : Output → List ℕ → List ℕ → Reply
-reply_of (output.Line a) ls ts = line_of a
-reply_of (output.Plan k) ls ts = planned (sheets (take k ls) (take k ts))
+-- of a plan the first k places of its two lists
+abbrev pub line_of : Answer → List ℕ → List ℕ → Reply
+line_of answer.Opened ls ts = opened
+line_of (answer.Admitted e) ls ts = admitted_reply e
+line_of (answer.Joined s) ls ts = joined s
+line_of (answer.Withdrawn s) ls ts = withdrawn s
+line_of (answer.Planned k) ls ts = planned (sheets (take k ls) (take k ts))
 
--- a plan's places stand in both lists
-abbrev pub Printable : Output → List ℕ → List ℕ → Type 0
-Printable (output.Line a) ls ts = Unit {0}
-Printable (output.Plan k) ls ts = (k ≤ length ls) × (k ≤ length ts)
+-- an answer, or a refusal by its number
+abbrev pub reply_of : Result Answer Refusal → List ℕ → List ℕ → Reply
+reply_of (Ok a) ls ts = line_of a ls ts
+reply_of (Err why) ls ts = refused (number why)
 
 -- ---- a text put into a list
 

@@ -1,8 +1,8 @@
 // A line taken apart.
 ghost use Rattle.std.specs.Prelude.{◌≡◌, ◌≤◌, length};
-ghost use Rattle.answers.specs.Refusals.{told};
+ghost use Rattle.answers.specs.Refusals.{told, optional};
 ghost use Rattle.lines.specs.Commands.{value_of, number_of, key_of, word_alone, word_and_one, word_and_three, command_of, parse_call};
-ghost use Rattle.lines.specs.InnerLines.{found, told_form};
+ghost use Rattle.lines.specs.InnerLines.{told_form};
 
 use answers::Refusal;
 
@@ -22,7 +22,7 @@ pub enum Command {
 fn value(digits: &[u8], base: u32) -> Option<u64>
     requires base_bound { (2 ≤ base) × (base ≤ 16) }
     requires digits_bound { length digits.now ≤ 16 }
-    ensures { found result ≡ value_of base 0 digits.now }
+    ensures { optional result ≡ value_of base 0 digits.now }
 {
     let mut value: u64 = 0;
     for byte in digits {
@@ -34,7 +34,7 @@ fn value(digits: &[u8], base: u32) -> Option<u64>
 
 // A number of 1 to 10 decimal digits, below 2^32.
 fn number(field: &[u8]) -> Option<u32>
-    ensures { found result ≡ number_of field.now }
+    ensures { optional result ≡ number_of field.now }
 {
     if field.is_empty() || field.len() > 10 {
         return None;
@@ -44,7 +44,7 @@ fn number(field: &[u8]) -> Option<u32>
 
 // A key of 16 hexadecimal digits.
 fn key(field: &[u8]) -> Option<u64>
-    ensures { found result ≡ key_of field.now }
+    ensures { optional result ≡ key_of field.now }
 {
     if field.len() != 16 {
         return None;

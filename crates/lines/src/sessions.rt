@@ -24,7 +24,7 @@ pub struct Memory<'a> {
 
 // Where a session stands between two pieces: the round that an accepted open made, if there was one, and how many bytes are held of
 // a line that has not ended. The list that holds them is lent to each call.
-#[derive(Clone, Copy)]
+#[derive(Clone, Copy, Debug, PartialEq, Eq)]
 pub struct Session {
     pub current: Option<Round>,
     pub held: usize,
@@ -109,7 +109,13 @@ impl Session {
     }
 
     // Takes bytes up to and with their first line feed, or all where there is none, and answers how many.
-    fn take_line(&mut self, bytes: &[u8], line: &mut [u8], memory: &mut Memory, text: &mut Text) -> usize
+    fn take_line(
+        &mut self,
+        bytes: &[u8],
+        line: &mut [u8],
+        memory: &mut Memory,
+        text: &mut Text,
+    ) -> usize
         requires { (0 < length bytes.now) × (self.old.held ≤ held_most) × (held_most ≤ length line.old) × HasRoom text.old (room_for memory.old.locations.now) }
         ensures memory_lent { SameLists memory.old memory.new }
         ensures text_lent { SameList text.old text.new }
@@ -130,7 +136,14 @@ impl Session {
     // ---- feeding
 
     // Takes line after line, as long as the text has no more than `most` bytes, and answers how many bytes.
-    fn take_lines(&mut self, piece: &[u8], line: &mut [u8], memory: &mut Memory, text: &mut Text, most: usize) -> usize
+    fn take_lines(
+        &mut self,
+        piece: &[u8],
+        line: &mut [u8],
+        memory: &mut Memory,
+        text: &mut Text,
+        most: usize,
+    ) -> usize
         requires held { (self.old.held ≤ held_most) × (held_most ≤ length line.old) }
         requires room { most + room_for memory.old.locations.now ≤ length text.old.out.now }
         requires empty { text.old.len ≡ 0 }
@@ -147,7 +160,13 @@ impl Session {
 
     // Feeds a piece of the input, as long as there is room for the longest answer: refusals 12, 4. What is put out stands in the
     // first places of `out`; where less than the whole piece was taken, it is to be written out before the rest is fed.
-    pub fn feed(&mut self, piece: &[u8], line: &mut [u8], memory: &mut Memory, out: &mut [u8]) -> Result<Fed, Refusal>
+    pub fn feed(
+        &mut self,
+        piece: &[u8],
+        line: &mut [u8],
+        memory: &mut Memory,
+        out: &mut [u8],
+    ) -> Result<Fed, Refusal>
         ensures answer { after_call result self.new (world_of self.new memory.new) line.new out.new ≡ feed_call (world_of self.old memory.old) line.old self.old.held piece.now out.old }
         ensures buffers_after { BuffersAfter result line.old line.new memory.old.scratch.now memory.new.scratch.now }
         ensures lent { SameLists memory.old memory.new }
@@ -168,7 +187,12 @@ impl Session {
     }
 
     // At the end of the input, answers a line that lacks its line feed.
-    pub fn finish(&mut self, line: &mut [u8], memory: &mut Memory, out: &mut [u8]) -> Result<Fed, Refusal>
+    pub fn finish(
+        &mut self,
+        line: &mut [u8],
+        memory: &mut Memory,
+        out: &mut [u8],
+    ) -> Result<Fed, Refusal>
         ensures answer { after_call result self.new (world_of self.new memory.new) line.new out.new ≡ end_call (world_of self.old memory.old) line.old self.old.held out.old }
         ensures buffers_after { BuffersAfter result line.old line.new memory.old.scratch.now memory.new.scratch.now }
         ensures lent { SameLists memory.old memory.new }

@@ -4,22 +4,17 @@ ghost use Rattle.std.proofs.Math.Option.{some};
 ghost use Rattle.rounds.specs.Plans.{sheet, sheets};
 ghost use Rattle.lines.specs.Replies.{decimal_of, tabbed, line_end, place_line, place_lines, text_of};
 
-// An answer of one line.
-#[derive(Drop)]
+use answers::Refusal;
+use orders::consistent_reservoir::Exchange;
+
+// What is answered to a line that is not refused; to a plan the first k places of its two lists.
+#[derive(Clone, Copy, Debug, PartialEq, Eq)]
 pub enum Answer {
     Opened,
-    Admitted { enters: u32, leaves: u32 },
-    Nothing,
+    Admitted(Option<Exchange>),
     Joined(u32),
     Withdrawn(u32),
-    Refused(u32),
-}
-
-// What is put out for a line: an answer, or the first k places of the plan's two lists.
-#[derive(Drop)]
-pub enum Output {
-    Line(Answer),
-    Plan(u32),
+    Planned(u32),
 }
 
 // How many digits a number has.
@@ -51,7 +46,7 @@ pub struct Text<'a> {
 }
 
 impl Text<'_> {
-    ghost use Rattle.lines.specs.InnerLines.{HasRoom, SameList, Puts, Printable, line_of, reply_of};
+    ghost use Rattle.lines.specs.InnerLines.{HasRoom, SameList, Puts, admitted_reply, line_of, reply_of};
 
     // ---- bytes and numbers
 
@@ -106,30 +101,19 @@ impl Text<'_> {
         self.push(b'\n');
     }
 
-    fn push_admitted(&mut self, enters: u32, leaves: u32)
+    fn push_admitted(&mut self, exchange: Option<Exchange>)
         requires { HasRoom self.old 32 }
         ensures lent { SameList self.old self.new }
-        ensures puts { Puts self.old (text_of (line_of (Answer.Admitted enters leaves))) self.new }
+        ensures puts { Puts self.old (text_of (admitted_reply exchange)) self.new }
     {
+        let Some(Exchange { enters, leaves }) = exchange else {
+            self.push_bytes(b"none\n");
+            return;
+        };
         self.push_bytes(b"admit");
         self.push_tabbed(enters);
         self.push_tabbed(leaves);
         self.push(b'\n');
-    }
-
-    fn push_answer(&mut self, answer: Answer)
-        requires { HasRoom self.old 32 }
-        ensures lent { SameList self.old self.new }
-        ensures puts { Puts self.old (text_of (line_of answer)) self.new }
-    {
-        match answer {
-            Answer::Opened => self.push_bytes(b"opened\n"),
-            Answer::Admitted { enters, leaves } => self.push_admitted(enters, leaves),
-            Answer::Nothing => self.push_bytes(b"none\n"),
-            Answer::Joined(slot) => self.push_one(b"joined", slot),
-            Answer::Withdrawn(slot) => self.push_one(b"withdrawn", slot),
-            Answer::Refused(number) => self.push_one(b"refused", number),
-        }
     }
 
     // ---- plans
@@ -147,26 +131,45 @@ impl Text<'_> {
     }
 
     fn push_plan(&mut self, locations: &[u32], terminals: &[u32], k: u32)
-        requires { (k ≤ length locations.now) × (k ≤ length terminals.now) × HasRoom self.old (33 * k) }
+        requires { HasRoom self.old (33 * length locations.now) }
         ensures lent { SameList self.old self.new }
         ensures puts { Puts self.old (place_lines 0 (sheets (take k locations.now) (take k terminals.now))) self.new }
     {
-        for place in 0..k {
-            let i = place as usize;
-            self.push_place(place, locations[i], terminals[i]);
+        for (place, (location, slot)) in (0..k).zip(locations.iter().zip(terminals)) {
+            self.push_place(place, *location, *slot);
         }
     }
 
-    // What is put out for a line.
-    pub(crate) fn push_output(&mut self, output: Output, locations: &[u32], terminals: &[u32])
-        requires room { HasRoom self.old (33 * length locations.now + 32) }
-        requires printable { Printable output locations.now terminals.now }
+    // ---- replies
+
+    fn push_answer(&mut self, answer: Answer, locations: &[u32], terminals: &[u32])
+        requires { HasRoom self.old (33 * length locations.now + 32) }
         ensures lent { SameList self.old self.new }
-        ensures puts { Puts self.old (text_of (reply_of output locations.now terminals.now)) self.new }
+        ensures puts { Puts self.old (text_of (line_of answer locations.now terminals.now)) self.new }
     {
-        match output {
-            Output::Line(answer) => self.push_answer(answer),
-            Output::Plan(k) => self.push_plan(locations, terminals, k),
+        match answer {
+            Answer::Opened => self.push_bytes(b"opened\n"),
+            Answer::Admitted(exchange) => self.push_admitted(exchange),
+            Answer::Joined(slot) => self.push_one(b"joined", slot),
+            Answer::Withdrawn(slot) => self.push_one(b"withdrawn", slot),
+            Answer::Planned(k) => self.push_plan(locations, terminals, k),
+        }
+    }
+
+    // An answer, or a refusal by its number.
+    pub(crate) fn push_reply(
+        &mut self,
+        reply: Result<Answer, Refusal>,
+        locations: &[u32],
+        terminals: &[u32],
+    )
+        requires { HasRoom self.old (33 * length locations.now + 32) }
+        ensures lent { SameList self.old self.new }
+        ensures puts { Puts self.old (text_of (reply_of reply locations.now terminals.now)) self.new }
+    {
+        match reply {
+            Ok(answer) => self.push_answer(answer, locations, terminals),
+            Err(why) => self.push_one(b"refused", why.number()),
         }
     }
 }

@@ -6,7 +6,7 @@ use Prim.Native.Nat.{◌≤◌}
 use native.Mathlib.Omega.{arith}
 use lib.ListN.{length}
 use Rattle.lines.specs.Commands.{number_of, below32}
-use Rattle.lines.specs.InnerLines.{found}
+use Rattle.answers.specs.Refusals.{optional}
 use Rattle.lines.proofs.CommandLaws.{inside, under, over, narrowed}
 use Rattle.lines.proofs.commands.number.Goals as goal
 use Rattle.lines.proofs.commands.number.Goals.{Else-is_empty, then-is_empty-via-then-is_empty, then-is_empty-via-else-is_empty+then-field-gt10}
@@ -25,10 +25,10 @@ some_digit c = omega (arith, eqb-false (length c.args.field.now) 0 (sym c.if-is_
 pub returns-in_err-value : goal.returns-in_err-value
 unfolding number_of
 returns-in_err-value c =
-    rw (inside 1 10 (length c.args.field.now) (some_digit (goal.at.returns-in_err-value c).Else-is_empty) c.if-field-gt10.false) (ap found c.from_residual.ensures ∙ ap below32 c.in_err-value.ensures)
+    rw (inside 1 10 (length c.args.field.now) (some_digit (goal.at.returns-in_err-value c).Else-is_empty) c.if-field-gt10.false) (ap optional c.from_residual.ensures ∙ ap below32 c.in_err-value.ensures)
 
 pub returns : goal.returns
 unfolding number_of
 returns c =
     rw (inside 1 10 (length c.args.field.now) (some_digit (goal.at.returns c).Else-is_empty) c.if-field-gt10.false)
-    (ap found c.ok.ensures.value ∙ narrowed _ _ c.try_from.ensures ∙ ap below32 c.in_ok-value.ensures)
+    (ap optional c.ok.ensures.value ∙ narrowed _ _ c.try_from.ensures ∙ ap below32 c.in_ok-value.ensures)

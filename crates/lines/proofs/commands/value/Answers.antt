@@ -5,7 +5,7 @@ use Prim.Native.Nat.{◌+◌, ◌*◌, ◌^◌, ◌≤◌, ◌<◌}
 use native.Mathlib.Omega.{arith}
 use lib.ListN.{get_or}
 use Rattle.lines.specs.Commands.{digit_of}
-use Rattle.lines.specs.InnerLines.{found}
+use Rattle.answers.specs.Refusals.{optional}
 use Rattle.lines.proofs.CommandLaws.{digit_within, digit_without, value_turn, value_stop, value_end, more_digits, in_word}
 use Rattle.lines.proofs.commands.value.Goals as goal
 use Rattle.lines.proofs.commands.value.Goals.{In_ok-digit}
@@ -28,7 +28,7 @@ returns-in_err-digit c =
     let l = c.loop-byte in
     let over = digit_without c.from.result c.args.base c.requires.base_bound.1 (omega (arith, c.in_err-digit.ensures.value)) in
     let here : c.args.base ≤ digit_of (get_or c.args.digits.now l.byte-index 0) = omega (arith, over, ap digit_of c.from.ensures) in
-    ap found c.from_residual.ensures ∙ sym (l.invariant.1 ∙ value_stop c.args.digits.now _ l.value l.byte-index (omega arith) here)
+    ap optional c.from_residual.ensures ∙ sym (l.invariant.1 ∙ value_stop c.args.digits.now _ l.value l.byte-index (omega arith) here)
 
 pub overflow_mul-value : goal.overflow_mul-value
 overflow_mul-value c = omega (arith, fits_word c)

@@ -8,7 +8,7 @@ use Rattle.lines.proofs.sessions.Session.feed.Goals.{then-self-gt81-via-then-sel
 
 pub returns-then-self-gt81-clause-answer : goal.returns-then-self-gt81-clause-answer
 returns-then-self-gt81-clause-answer c = elim c.then-self-gt81.branch [
-  then-self-gt81-via-then-self-gt81 w ↦ feed_many _ _ _ _ _ w.if-self-gt81.true
+  | then-self-gt81-via-then-self-gt81 w ↦ feed_many _ _ _ _ _ w.if-self-gt81.true
   | then-self-gt81-via-else-self-gt81+then-line-self w ↦ feed_past _ _ _ _ _ w.if-line-self.true
 ]
 
@@ -17,7 +17,7 @@ returns-then-line-lt81-clause-answer c =
     let many = c.if-self-gt81.false in
     let past = c.if-line-self.false in
     elim c.then-line-lt81.branch [
-      then-line-lt81-via-then-line-lt81 w ↦ feed_short _ _ _ _ _ many past w.if-line-lt81.true
+      | then-line-lt81-via-then-line-lt81 w ↦ feed_short _ _ _ _ _ many past w.if-line-lt81.true
       | then-line-lt81-via-else-line-lt81+then-out-lt32 w ↦ feed_close _ _ _ _ _ many past (omega (arith, w.if-out-lt32.true))
       | then-line-lt81-via-else-line-lt81+else-out-lt32+then-out-memory w ↦ feed_close _ _ _ _ _ many past (omega (arith, w.if-out-lt32.false, w.if-out-memory.true))
     ]
