@@ -10,6 +10,7 @@ use crate::parts;
 use answers::Refusal;
 use choosers::choose_k::ConsistentChooseKHasher;
 
+// C lends words of any length, so that there are three is tested once in each call, and asked for by those that read and write them.
 fn loaded(words: &[u64]) -> ConsistentChooseKHasher
     requires { 3 ≤ length words.now }
     ensures { result ≡ chooser_as words.now }

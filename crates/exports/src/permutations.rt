@@ -21,6 +21,7 @@ pub struct Ran {
     pub fed: u64,
 }
 
+// C lends words of any length, so that there are eighteen is tested once in each call, and asked for by those that read and write them.
 fn loaded(ws: &[u32]) -> ConsistentPermutation
     requires { 18 ≤ length ws.now }
     ensures { result ≡ order_as ws.now }

@@ -9,6 +9,7 @@ use crate::parts;
 use answers::Refusal;
 use orders::consistent_reservoir::ConsistentReservoir;
 
+// C lends words of any length, so that there are six is tested once in each call, and asked for by those that read and write them.
 fn loaded(words: &[u32]) -> ConsistentReservoir
     requires { 6 ≤ length words.now }
     ensures { result ≡ record_of words.now }

@@ -12,6 +12,7 @@ use orders::consistent_reservoir::ConsistentReservoir;
 use rounds::round::Round;
 use rounds::{replays, round};
 
+// C lends words of any length, so that there are seven is tested once in each call, and asked for by those that read and write them.
 fn loaded(words: &[u32]) -> Round
     requires { 7 ≤ length words.now }
     ensures { result ≡ round_as words.now }
