@@ -127,7 +127,8 @@ impl Session {
                 end + 1
             }
             None => {
-                self.held = keep(line, self.held, bytes);
+                let held = keep(line, self.held, bytes);
+                self.held = held;
                 bytes.len()
             }
         }

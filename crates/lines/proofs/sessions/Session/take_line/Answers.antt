@@ -17,4 +17,4 @@ pub returns-in-None-clause-steps : goal.returns-in-None-clause-steps
 returns-in-None-clause-steps c =
     let a = c.args in
     step_held a.bytes.now _ a.line.now a.text.now.out.now a.self.now.held a.text.now.len _ (omega (arith, c.requires)) refl _ _ (omega (arith, c.requires)) (end_none a.bytes.now (sym c.in-None.ensures))
-    (omega arith) c.keep-self.ensures.holds
+    (omega arith) c.keep-held.ensures.holds
