@@ -17,9 +17,8 @@ use Rattle.orders.specs.ReservoirCalls as Reservoir
 use Rattle.choosers.specs.Choosers.{g, largest_g, S, Q}
 use Rattle.choosers.specs.Slots.{active, deleted, actives, vacant, holder, state_of, slot_among, slot_of}
 use Rattle.choosers.specs.SlotCalls as Slots
-use Rattle.orders.specs.declared.consistent_reservoir.Exchange.TheVariants as exchange
-use Rattle.choosers.specs.declared.node_map.Slot.TheVariants as slot
-use Rattle.choosers.specs.declared.node_map.Outcome.TheVariants as outcome
+use Rattle.std.specs.Prelude as rust
+use Rattle.answers.specs.declared.Refusal.TheVariants.{SlotNotActive}
 use Rattle.rounds.specs.declared.round.Round.{Round}
 use Rattle.rounds.specs.Rounds.{State, state, fitting, open_call, after_open, admit_call, join_call, withdraw_call}
 use Rattle.rounds.specs.Plans.{terminal_of, plan_call, after_plan, sheet}
@@ -67,10 +66,10 @@ wide = state (record { master_key = key; k = 2; n = 7; j_max = 1; used = 7; tota
 pub made_both : AllMade begin (join ∷ join ∷ admit ∷ withdraw 5 ∷ []) (says (0 ∷ []) ∷ says (1 ∷ []) ∷ says (6 ∷ 1 ∷ []) ∷ refusal 10 ∷ []) wide
 unfolding admit_call join_call withdraw_call fitting Reservoir.fitting Reservoir.sample Reservoir.admit_call Reservoir.exchange Reservoir.exchange_by Slots.fitting Slots.add_call Slots.remove_call every last incoming not_below standing written grown up_to_zeros wider below zero_top top_bits layer start rounds round round_function next_key over rotate_right vacant deleted active
 made_both =
-    made_next (join_left (slot.Number 0) (record_of 3 0 1) (1 ∷ 8 ∷ 7 ∷ []) refl)
-    (made_next (join_returned (record { round = record_of 3 0 2; slot = slot.Number 1 }) (1 ∷ 1 ∷ 7 ∷ []) refl)
-    (made_next (admit_left (exchange.InOut 6 1) wide.round wide.list refl)
-    (made_next (withdraw_returned 5 (record { round = wide.round; outcome = outcome.Refused 10 }) wide.table refl)
+    made_next (join_left (rust.Ok 0) (record_of 3 0 1) (1 ∷ 8 ∷ 7 ∷ []) refl)
+    (made_next (join_returned (record_of 3 0 2, rust.Ok 1) (1 ∷ 1 ∷ 7 ∷ []) refl)
+    (made_next (admit_left (rust.Ok (rust.Some (record { enters = 6; leaves = 1 }))) wide.round wide.list refl)
+    (made_next (withdraw_returned 5 (wide.round, rust.Err SlotNotActive) wide.table refl)
     (made_none wide))))
 
 -- the round after them

@@ -20,11 +20,11 @@ use Rattle.lines.specs.Lines.{lines_of}
 use Rattle.lines.specs.Commands.{within, digit_of, number_of, key_of, word_alone, word_and_one, word_and_three, command_of}
 use Rattle.lines.specs.Replies.{decimal_of, tabbed, place_line, text_of}
 use Rattle.lines.specs.Sessions.{World, world, site, open_line, join_line, withdraw_line, plan_line, answered, respond, answers}
-use Rattle.lines.specs.declared.sessions.Current.TheVariants as current
+use Rattle.std.specs.Prelude.{None}
 
 -- no round; a list of four places, a table of two bytes, the plan's lists and the scratch of two places
 abbrev memory : World
-memory = world (site current.Nothing (0 ∷ 0 ∷ 0 ∷ 0 ∷ []) (0 ∷ 0 ∷ [])) (0 ∷ 0 ∷ []) (0 ∷ 0 ∷ []) 2
+memory = world (site None (0 ∷ 0 ∷ 0 ∷ 0 ∷ []) (0 ∷ 0 ∷ [])) (0 ∷ 0 ∷ []) (0 ∷ 0 ∷ []) 2
 
 -- open⇥0000000000000001⇥1⇥1, join, plan, withdraw⇥3, withdraw⇥0, plan
 abbrev typed : List ℕ

@@ -2,7 +2,7 @@
 -- Assumes nothing.
 use mathlib.Core.Path.{◌≡◌, refl, sym, ap, ◌∙◌}
 use mathlib.Core.List.{List, [], ◌∷◌, ◌++◌}
-use Prim.Native.Nat.{ℕ, zero, suc, ◌+◌, ◌*◌, ◌/◌, ◌%◌, ◌^◌, ◌≤◌, ◌<◌}
+use Prim.Native.Nat.{ℕ, zero, suc, ◌+◌, ◌*◌, ◌/◌, ◌%◌, ◌^◌, ◌≤◌, ◌<◌, max}
 use native.Mathlib.Nat.{one-le-pow, pow-suc}
 use native.Mathlib.Omega.{arith}
 use borrow.Author.Tests.{lt-ltb, le-ltb}
@@ -85,6 +85,18 @@ decimal_snoc n g h = spell_snoc 8 n g h
 pub length_decimal_is : (d n : ℕ) → d < 10 → 10 ^ d ≤ n → n < 10 ^ suc d → length (decimal_of n) ≡ suc d
 unfolding decimal_of
 length_decimal_is d n b g h = omega (arith, length_spell_is 10 d n [] b g h)
+
+-- as its logarithm tells, with 1 in place of 0
+pub length_decimal_log : (d n m : ℕ) → m ≡ max n 1 → 10 ^ d ≤ m → m < 10 * 10 ^ d → d < 10 → d + 1 ≡ length (decimal_of n)
+length_decimal_log d n m e g h b =
+    let long : length (decimal_of m) ≡ suc d = length_decimal_is d m b g (rw pow-suc (omega arith)) in
+    by_below n 1
+    (λ l. let one : m ≡ 1 = omega arith in
+    let a : length (decimal_of m) ≡ 1 = ap length (decimal_one m (omega arith)) in
+    let z : length (decimal_of n) ≡ 1 = ap length (decimal_one n (omega arith)) in
+    omega arith)
+    (λ l. let same : m ≡ n = omega arith in
+    omega (arith, ap (λ (x : ℕ). length (decimal_of x)) same))
 
 pub length_decimal : (n : ℕ) → length (decimal_of n) ≤ 10
 unfolding decimal_of

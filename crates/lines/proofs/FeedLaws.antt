@@ -1,7 +1,7 @@
 -- Bytes taken line by line, as the code takes them.
 -- Assumes nothing.
 use mathlib.Core.Path.{◌≡◌, refl, sym, ap, ◌∙◌, subst}
-use mathlib.Core.Bool.{or-true}
+use mathlib.Core.Bool.{or-true, cond}
 use mathlib.Core.List.{List, [], ◌∷◌, ◌++◌, append_assoc, append-nil}
 use Prim.Native.Nat.{ℕ, suc, ◌+◌, ◌-◌, ◌≤◌, ◌<◌}
 use native.Mathlib.Omega.{arith}
@@ -10,21 +10,19 @@ use borrow.Author.Tests.{le-leb, lt-leb, lt-ltb, le-ltb, ne_eqb}
 use lib.Dec.{eqb}
 use lib.ListN.{length, take, drop, get_or, length-append, length-take, length-drop, drop_of_length-le}
 use lib.Seq.{take_at, take_all, drop-drop, length-take-le, drop-cons}
-use Rattle.lists.specs.Told.{refusal, says}
+use Rattle.std.specs.Prelude.{Option, Some, None}
+use Rattle.std.specs.List.{position_or_len, position}
+use Rattle.lists.specs.Told.{Told, refusal, says}
 use Rattle.lists.specs.Lists.{written}
-use Rattle.lists.proofs.Tests.{by_test}
+use Rattle.lists.proofs.Tests.{by_test, by_below}
 use Rattle.lines.specs.Replies.{text_of}
-use Rattle.lines.specs.Commands.{command_of}
+use Rattle.lines.specs.Commands.{parse_call}
 use Rattle.lines.specs.Sessions.{World, world, site, Response, respond, answered}
-use Rattle.lines.specs.Streams.{Progress, progress, byte, fed_part, fed_up_to, room_for, count, AfterFeed, after_feed, world_of, after_call, feed_call, end_call, BuffersAfter}
-use Rattle.lines.specs.InnerLines.{place_of, reply_of, Put}
-use Rattle.lines.specs.InnerSessions.{act_by, Holds, Says, Stepped, Took}
+use Rattle.lines.specs.Streams.{Progress, progress, byte, fed_part, fed_up_to, room_for, count, AfterFeed, after_feed, feed_call, end_call}
+use Rattle.lines.specs.InnerLines.{reply_of, Put}
+use Rattle.lines.specs.InnerSessions.{Holds, Stepped, Took}
 use Rattle.lines.specs.declared.commands.Command.{Command}
-use Rattle.lines.specs.declared.calls.Acted.{Acted}
-use Rattle.lines.specs.declared.sessions.Session.{Session}
-use Rattle.lines.specs.declared.sessions.Fed.{Fed}
-use Rattle.lines.specs.declared.sessions.Feeding.TheVariants as feeding
-use Rattle.lines.proofs.PutLaws.{put_none, put_fits, put_written, length_output}
+use Rattle.lines.proofs.PutLaws.{put_none, put_written}
 use Rattle.lines.proofs.HeldLaws.{take_cut, respond_first}
 use Rattle.lines.proofs.StreamLaws.{byte_line, byte_held}
 
@@ -32,19 +30,7 @@ use Rattle.lines.proofs.StreamLaws.{byte_line, byte_held}
 
 -- what a line leaves and what it puts out
 abbrev pub Hears : Response → World → List ℕ → ℕ → List ℕ → ℕ → Type 0
-Hears h w out at out' put = (w ≡ h.world) × Says h.reply out at out' put
-
-pub response_same : {h h' : Response} {w : World} {out out' : List ℕ} {at put : ℕ} → h ≡ h' → Hears h w out at out' put → Hears h' w out at out' put
-response_same {h} {h'} {w} {out} {out'} {at} {put} e x = subst (λ (z : Response). Hears z w out at out' put) e x
-
--- the command is done, and what it says is put out
-pub response_act : (w : World) (bytes : List ℕ) (cmd : Command) (a : Acted) (l t ls ts : List ℕ) (places : ℕ) (out out' : List ℕ) (at put : ℕ)
-    → cmd ≡ command_of bytes → act_by a l t ls ts places ≡ answered w cmd → Put out at (text_of (reply_of a.output ls ts)) out' put
-    → at + room_for ls ≤ length out → Hears (respond w bytes) (world (site a.current l t) ls ts places) out at out' put
-unfolding respond
-response_act w bytes cmd a l t ls ts places out out' at put e is p room =
-    response_same (is ∙ ap (answered w) e)
-    (refl, record { puts = p; fits = put_fits p (omega (arith, length_output a.output ls ts)) })
+Hears h w out at out' put = (w ≡ h.world) × Put out at (text_of h.reply) out' put
 
 -- nothing is held, and the line is what is there
 pub response_bare : (w : World) (line bytes : List ℕ) (held : ℕ) → held ≡ 0 → respond w bytes ≡ respond w (take 81 (take held line ++ bytes))
@@ -52,36 +38,60 @@ response_bare w line bytes held e = sym (respond_first w bytes) ∙ ap (λ (m : 
 
 -- ---- bytes up to the first line feed
 
+-- where it is, or the length
+abbrev pub end_of : List ℕ → ℕ
+end_of [] = 0
+end_of (b ∷ l) = cond (eqb b 10) 0 (suc (end_of l))
+
+-- as std's `position` finds it
+end_is : (l : List ℕ) → position_or_len (λ b. eqb b 10) l ≡ end_of l
+end_is [] = refl
+end_is (b ∷ l) = by_test (eqb b 10) (λ y. rw y) (λ n. rw (n, end_is l) (omega arith))
+
+pub end_some : (l : List ℕ) (e : ℕ) → position (λ b. eqb b 10) l ≡ Some e → (e ≡ end_of l) × (e < length l)
+end_some l e h =
+    by_below (position_or_len (λ b. eqb b 10) l) (length l)
+    (λ p. let q : ◌≡◌ {A = Option ℕ} (Some (position_or_len (λ b. eqb b 10) l)) (Some e) = rw (lt-ltb _ _ p) at h in
+    let same : position_or_len (λ b. eqb b 10) l ≡ e = cc in
+    (sym same ∙ end_is l, omega arith))
+    (λ p. let q : ◌≡◌ {A = Option ℕ} None (Some e) = rw (le-ltb _ _ p) at h in cc)
+
+pub end_none : (l : List ℕ) → position (λ b. eqb b 10) l ≡ None → length l ≤ end_of l
+end_none l h =
+    by_below (position_or_len (λ b. eqb b 10) l) (length l)
+    (λ p. let q : ◌≡◌ {A = Option ℕ} (Some (position_or_len (λ b. eqb b 10) l)) None = rw (lt-ltb _ _ p) at h in cc)
+    (λ p. omega (arith, end_is l))
+
 module _ (most : ℕ) (w : World) (t : List ℕ) (m : length t ≤ most) where
   feed_one : (h : List ℕ) (b : ℕ) (l : List ℕ) → fed_up_to most (progress w h t) (b ∷ l) ≡ fed_up_to most (byte (progress w h t) b) l
   feed_one h b l = rw (le-leb (length t) most m)
 
   -- the line that a line feed ends
-  pub feed_line : (h l : List ℕ) → place_of 10 l < length l
+  pub feed_line : (h l : List ℕ) → end_of l < length l
       → fed_up_to most (progress w (take 81 h) t) l
-      ≡ fed_up_to most (progress (respond w (take 81 (h ++ take (place_of 10 l) l))).world [] (t ++ text_of (respond w (take 81 (h ++ take (place_of 10 l) l))).reply)) (drop (suc (place_of 10 l)) l)
+      ≡ fed_up_to most (progress (respond w (take 81 (h ++ take (end_of l) l))).world [] (t ++ text_of (respond w (take 81 (h ++ take (end_of l) l))).reply)) (drop (suc (end_of l)) l)
   feed_line h [] p = absurd (omega arith)
   feed_line h (b ∷ l) p =
       by_test (eqb b 10)
       (λ e. rw (e, append-nil h) (feed_one (take 81 h) b l ∙ ap (λ (s : Progress). fed_up_to most s l) (byte_line (progress w (take 81 h) t) b e)))
       (λ e.
-      let q : suc (place_of 10 l) < suc (length l) = rw e at p in
-      let n : place_of 10 l < length l = omega arith in
-      let a : (h ++ (b ∷ [])) ++ take (place_of 10 l) l ≡ h ++ b ∷ take (place_of 10 l) l = append_assoc h (b ∷ []) (take (place_of 10 l) l) in
+      let q : suc (end_of l) < suc (length l) = rw e at p in
+      let n : end_of l < length l = omega arith in
+      let a : (h ++ (b ∷ [])) ++ take (end_of l) l ≡ h ++ b ∷ take (end_of l) l = append_assoc h (b ∷ []) (take (end_of l) l) in
       rw (e, ← a)
       (feed_one (take 81 h) b l
       ∙ ap (λ (s : Progress). fed_up_to most s l) (byte_held (progress w (take 81 h) t) b e ∙ ap (λ (x : List ℕ). progress w x t) (take_cut 81 h (b ∷ [])))
       ∙ feed_line (h ++ (b ∷ [])) l n))
 
   -- bytes with no line feed are held
-  pub feed_held : (h l : List ℕ) → length l ≤ place_of 10 l → fed_up_to most (progress w (take 81 h) t) l ≡ fed_part (progress w (take 81 (h ++ l)) t) []
+  pub feed_held : (h l : List ℕ) → length l ≤ end_of l → fed_up_to most (progress w (take 81 h) t) l ≡ fed_part (progress w (take 81 (h ++ l)) t) []
   feed_held h [] p = rw (append-nil h)
   feed_held h (b ∷ l) p =
       by_test (eqb b 10)
       (λ e. let q : suc (length l) ≤ 0 = rw e at p in absurd (omega arith))
       (λ e.
-      let q : suc (length l) ≤ suc (place_of 10 l) = rw e at p in
-      let n : length l ≤ place_of 10 l = omega arith in
+      let q : suc (length l) ≤ suc (end_of l) = rw e at p in
+      let n : length l ≤ end_of l = omega arith in
       feed_one (take 81 h) b l
       ∙ ap (λ (s : Progress). fed_up_to most s l) (byte_held (progress w (take 81 h) t) b e ∙ ap (λ (x : List ℕ). progress w x t) (take_cut 81 h (b ∷ [])))
       ∙ feed_held (h ++ (b ∷ [])) l n
@@ -100,7 +110,7 @@ put_take {out} {text} {out'} {at} {put} p =
 held_few : (line : List ℕ) (held : ℕ) → held ≤ 81 → take held line ≡ take 81 (take held line)
 held_few line held h = sym (take_all 81 (take held line) (omega (arith, length-take held line)))
 
-module _ (bytes : List ℕ) (w : World) (line out : List ℕ) (held at e : ℕ) (few : held ≤ 81) (is : e ≡ place_of 10 bytes) where
+module _ (bytes : List ℕ) (w : World) (line out : List ℕ) (held at e : ℕ) (few : held ≤ 81) (is : e ≡ end_of bytes) where
   -- a line feed is there, and its line was answered
   pub step_line : (w' : World) (line' out' : List ℕ) (put : ℕ) → e < length bytes → Hears (respond w (take 81 (take held line ++ take e bytes))) w' out at out' put
       → Stepped bytes w line out held at w' line' out' 0 (e + 1) put
@@ -111,17 +121,16 @@ module _ (bytes : List ℕ) (w : World) (line out : List ℕ) (held at e : ℕ) 
         some = omega arith;
         inside = omega arith;
         text = text_of a.reply;
-        puts = x.1.puts;
-        fits = x.1.fits;
+        puts = x.1;
         is = λ most m.
             let n : length (take at out) ≤ most = omega (arith, length-take at out) in
-            let g : place_of 10 bytes < length bytes = omega arith in
-            let q : respond w (take 81 (take held line ++ take (place_of 10 bytes) bytes)) ≡ a = ap (λ (i : ℕ). respond w (take 81 (take held line ++ take i bytes))) (sym is) in
+            let g : end_of bytes < length bytes = omega arith in
+            let q : respond w (take 81 (take held line ++ take (end_of bytes) bytes)) ≡ a = ap (λ (i : ℕ). respond w (take 81 (take held line ++ take i bytes))) (sym is) in
             ap (λ (l : List ℕ). fed_up_to most (progress w l (take at out)) bytes) (held_few line held few)
             ∙ feed_line most w (take at out) n (take held line) bytes g
-            ∙ ap (λ (z : Response). fed_up_to most (progress z.world [] (take at out ++ text_of z.reply)) (drop (suc (place_of 10 bytes)) bytes)) q
-            ∙ ap (λ (l : List ℕ). fed_up_to most (progress a.world [] l) (drop (suc (place_of 10 bytes)) bytes)) (sym (put_take x.1.puts))
-            ∙ ap (λ (v : World). fed_up_to most (progress v [] (take put out')) (drop (suc (place_of 10 bytes)) bytes)) (sym x.0)
+            ∙ ap (λ (z : Response). fed_up_to most (progress z.world [] (take at out ++ text_of z.reply)) (drop (suc (end_of bytes)) bytes)) q
+            ∙ ap (λ (l : List ℕ). fed_up_to most (progress a.world [] l) (drop (suc (end_of bytes)) bytes)) (sym (put_take x.1))
+            ∙ ap (λ (v : World). fed_up_to most (progress v [] (take put out')) (drop (suc (end_of bytes)) bytes)) (sym x.0)
             ∙ ap (λ (i : ℕ). fed_up_to most (progress w' [] (take put out')) (drop i bytes)) (ap suc (sym is) ∙ sym (add-one e));
       }
 
@@ -134,10 +143,9 @@ module _ (bytes : List ℕ) (w : World) (line out : List ℕ) (held at e : ℕ) 
     inside = omega arith;
     text = [];
     puts = put_none out at a;
-    fits = a;
     is = λ most m.
         let q : length (take at out) ≤ most = omega (arith, length-take at out) in
-        let g : length bytes ≤ place_of 10 bytes = omega arith in
+        let g : length bytes ≤ end_of bytes = omega arith in
         ap (λ (l : List ℕ). fed_up_to most (progress w l (take at out)) bytes) (held_few line held few)
         ∙ feed_held most w (take at out) q (take held line) bytes g
         ∙ ap (λ (l : List ℕ). fed_part (progress w l (take at out)) []) (sym x.holds)
@@ -161,8 +169,8 @@ going_start most w piece line out held h = record { few = h; inside = omega arit
 module _ (most : ℕ) (start : Progress) (piece before : List ℕ) (w : World) (line out : List ℕ) (held taken put : ℕ) (g : Going most start piece before w line out held taken put) where
   -- another line
   pub going_more : (bytes : List ℕ) (w' : World) (line' out' : List ℕ) (held' n put' : ℕ) → put ≤ most → bytes ≡ drop taken piece
-      → Stepped bytes w line out held put w' line' out' held' n put' → Going most start piece before w' line' out' held' (taken + n) put'
-  going_more bytes w' line' out' held' n put' m b s =
+      → put' ≤ length out' → Stepped bytes w line out held put w' line' out' held' n put' → Going most start piece before w' line' out' held' (taken + n) put'
+  going_more bytes w' line' out' held' n put' m b f s =
       let size : length (take put out) ≡ put = length-take-le put out g.fits in
       let puts : Put (written (take put out) before) (length (take put out)) s.text out' put' =
       subst (λ (x : List ℕ). Put x (length (take put out)) s.text out' put') g.same
@@ -171,7 +179,7 @@ module _ (most : ℕ) (start : Progress) (piece before : List ℕ) (w : World) (
       record {
         few = s.few;
         inside = omega (arith, g.inside, within, length-drop taken piece);
-        fits = s.fits;
+        fits = f;
         same = put_written (take put out) before s.text puts ∙ ap (λ (x : List ℕ). written x before) (sym (put_take s.puts));
         on =
             ap (fed_up_to most (progress w' (take held' line') (take put' out'))) (sym (ap (drop n) b ∙ drop-drop n taken piece))
@@ -250,19 +258,12 @@ module _ (w : World) (line piece out : List ℕ) (held : ℕ) where
           ← t.same,
         )
 
--- a refusal: nothing has changed
-pub feed_refused : (f : Fed) (s : Session) (c : ℕ) → f ≡ record { session = s; feeding = feeding.Refused c }
-    → (l t ls ts scratch line out : List ℕ) (x : AfterFeed) → after_feed (refusal c) (world_of s l t ls ts scratch) (take s.held line) s.held out ≡ x
-    → (after_call f (world_of f.session l t ls ts scratch) line out ≡ x) × BuffersAfter f.feeding line line scratch scratch
-feed_refused f s c e l t ls ts scratch line out x is =
-    subst (λ (z : Fed). (after_call z (world_of z.session l t ls ts scratch) line out ≡ x) × BuffersAfter z.feeding line line scratch scratch) (sym e) (is, (refl, refl))
-
 -- ---- the end
 
 module _ (w : World) (line out : List ℕ) (held : ℕ) where
-  pub end_none : held ≡ 0 → after_feed (says (count 0 0)) w (take held line) held out ≡ end_call w line held out
+  pub end_bare : held ≡ 0 → after_feed (says (count 0 0)) w (take held line) held out ≡ end_call w line held out
   unfolding end_call
-  end_none e = rw e
+  end_bare e = rw e
 
   pub end_held : (held ≡ 0 → ⊥) → feed_call w line held (10 ∷ []) out ≡ end_call w line held out
   unfolding end_call

@@ -2,11 +2,14 @@
 -- Assumes nothing.
 use mathlib.Core.Path.{◌≡◌, refl, sym, ap, ◌∙◌}
 use mathlib.Core.List.{List, [], ◌∷◌, ◌++◌, append_assoc, append-nil}
-use Prim.Native.Nat.{ℕ, zero, suc, ◌+◌, ◌≤◌, ◌<◌}
+use Prim.Native.Nat.{ℕ, zero, suc, ◌+◌, ◌-◌, ◌≤◌, ◌<◌, min}
 use native.Mathlib.Omega.{arith}
 use native.Mathlib.Numerals.{add-one}
-use lib.ListN.{length, take, drop, get_or, set, length-append, take-append-drop}
-use lib.Seq.{take-suc, take-suc-set, take_at, take_all, length-take-le}
+use lib.ListN.{length, take, length-append, length-take}
+use Rattle.lists.proofs.Tests.{by_below}
+use lib.Seq.{take-append-add, take-suc, take-suc-set, take_at, take_all, length-take-le}
+use borrow.Rule.Slice.PartMut.{put_mid}
+use Rattle.std.proofs.lemmas.Slice.{take-put_mid}
 use Rattle.lines.specs.Sessions.{World, respond}
 use Rattle.lines.specs.InnerSessions.{Holds}
 use Rattle.lines.proofs.CommandLaws.{command_first}
@@ -21,34 +24,25 @@ pub respond_first : (w : World) (l : List ℕ) → respond w (take 81 l) ≡ res
 unfolding respond
 respond_first w l = rw (command_first l)
 
--- ---- the bytes of a line held one after the other, behind p
+-- ---- the bytes of a line held, behind those that are
 
-module _ (p line bytes : List ℕ) (i next : ℕ) (h : Holds next line (p ++ take i bytes)) where
-  -- one more
-  pub keep_more : next < length line → i < length bytes → Holds (next + 1) (set line next (get_or bytes i 0)) (p ++ take (i + 1) bytes)
-  keep_more l b =
-      let e : p ++ take (i + 1) bytes ≡ (p ++ take i bytes) ++ (get_or bytes i 0 ∷ []) =
-      rw (add-one, take-suc bytes i 0 b) (sym (append_assoc p (take i bytes) (get_or bytes i 0 ∷ []))) in
-      record {
-        size = rw e (omega (arith, length-append (p ++ take i bytes) (get_or bytes i 0 ∷ []), h.size));
-        holds = rw (e, add-one, take-suc-set line next (get_or bytes i 0) l, h.holds);
-      }
-
-  -- no place is left
-  pub keep_full : next ≡ 81 → Holds next line (take 81 (p ++ bytes))
-  keep_full f =
-      let whole : p ++ bytes ≡ (p ++ take i bytes) ++ drop i bytes =
-      ap (λ (r : List ℕ). p ++ r) (sym (take-append-drop i bytes)) ∙ sym (append_assoc p (take i bytes) (drop i bytes)) in
-      let e : take 81 (p ++ bytes) ≡ p ++ take i bytes =
-      ap (take 81) whole ∙ take_at (p ++ take i bytes) (drop i bytes) 81 (omega (arith, h.size)) in
-      rw e h
-
-  -- none is left to hold
-  pub keep_all : length bytes ≤ i → next ≤ 81 → Holds next line (take 81 (p ++ bytes))
-  keep_all a f =
-      let e : take i bytes ≡ bytes = take_all i bytes a in
-      let g : Holds next line (p ++ bytes) = rw e at h in
-      rw (take_all 81 (p ++ bytes) (omega (arith, g.size))) g
-
-pub keep_none : (line bytes : List ℕ) (m : ℕ) → m ≤ length line → Holds m line (take m line ++ take 0 bytes)
-keep_none line bytes m h = rw (append-nil (take m line)) (record { size = sym (length-take-le m line h); holds = refl })
+-- bytes put behind the first that are held, as many as there is room for
+pub held_more : (line bytes part : List ℕ) (held count k size : ℕ) → held ≤ 81 → 81 ≤ length line → count ≡ min (length bytes) (81 - held) → k ≡ count → size ≡ held + count
+    → part ≡ take count bytes → Holds size (put_mid held k line part) (take 81 (take held line ++ bytes))
+held_more line bytes part held count k size h l c e s p =
+    let front : length (take held line) ≡ held = length-take-le held line (omega arith) in
+    let here : length part ≡ count = ap length p ∙ length-take-le count bytes (omega arith) in
+    let same : take count bytes ≡ take (81 - held) bytes =
+    by_below (81 - held) (length bytes)
+    (λ b. ap (λ (n : ℕ). take n bytes) (fewer b))
+    (λ b. take_all count bytes (omega arith) ∙ sym (take_all (81 - held) bytes b)) in
+    let room : 81 ≡ length (take held line) + (81 - held) = omega arith in
+    let all : take 81 (take held line ++ bytes) ≡ take held line ++ take (81 - held) bytes =
+    ap (λ (n : ℕ). take n (take held line ++ bytes)) room ∙ take-append-add (take held line) bytes (81 - held) in
+    record {
+      size = omega (arith, length-take 81 (take held line ++ bytes), length-append (take held line) bytes);
+      holds = take-put_mid held k line part size (omega arith) (omega arith) ∙ ap (λ (t : List ℕ). take held line ++ t) (p ∙ same) ∙ sym all;
+    }
+  where
+    fewer : 81 - held < length bytes → count ≡ 81 - held
+    fewer b = omega arith

@@ -26,8 +26,7 @@ use Rattle.lines.specs.Replies as Replies
 use Rattle.lines.specs.Sessions.{Site, site, replied, replaced, open_line, admit_line, join_line, withdraw_line, plan_line, World, world, answered, respond, after_lines}
 use Rattle.lines.specs.declared.commands.Command.{Command}
 use Rattle.lines.specs.declared.commands.Command.TheVariants as command
-use Rattle.lines.specs.declared.sessions.Current.{Current}
-use Rattle.lines.specs.declared.sessions.Current.TheVariants as current
+use Rattle.std.specs.Prelude.{Option, Some, None}
 
 -- ---- every round that lines lead to is reached by calls from an accepted open
 
@@ -49,9 +48,9 @@ reached_more s r x =
       is = after_snoc r.start r.calls x ∙ ap (λ (z : State). (call z x).state) r.is;
     }
 
-abbrev pub Reaches : Current → List ℕ → List ℕ → Type 0
-Reaches current.Nothing l t = Unit {0}
-Reaches (current.Open r) l t = Reached (state r l t)
+abbrev pub Reaches : Option Round → List ℕ → List ℕ → Type 0
+Reaches None l t = Unit {0}
+Reaches (Some r) l t = Reached (state r l t)
 
 abbrev pub SiteReached : Site → Type 0
 SiteReached s = Reaches s.current s.list s.table
@@ -63,34 +62,34 @@ open_reaches key k n s h (says r) l e =
     record { key = key; k = k; n = n; start = state r l s.table; opens = record { lent = s.list; accepted = e }; calls = []; is = refl }
 
 module _ (l t : List ℕ) where
-  admit_reaches : (c : Current) → Reaches c l t → SiteReached (admit_line (site c l t)).site
+  admit_reaches : (c : Option Round) → Reaches c l t → SiteReached (admit_line (site c l t)).site
   unfolding admit_line call
-  admit_reaches current.Nothing h = tt
-  admit_reaches (current.Open r) h = reached_more (state r l t) h admit
+  admit_reaches None h = tt
+  admit_reaches (Some r) h = reached_more (state r l t) h admit
 
-  join_reaches : (c : Current) → Reaches c l t → SiteReached (join_line (site c l t)).site
+  join_reaches : (c : Option Round) → Reaches c l t → SiteReached (join_line (site c l t)).site
   unfolding join_line call
-  join_reaches current.Nothing h = tt
-  join_reaches (current.Open r) h = reached_more (state r l t) h join
+  join_reaches None h = tt
+  join_reaches (Some r) h = reached_more (state r l t) h join
 
-  withdraw_reaches : (x : ℕ) (c : Current) → Reaches c l t → SiteReached (withdraw_line x (site c l t)).site
+  withdraw_reaches : (x : ℕ) (c : Option Round) → Reaches c l t → SiteReached (withdraw_line x (site c l t)).site
   unfolding withdraw_line call
-  withdraw_reaches x current.Nothing h = tt
-  withdraw_reaches x (current.Open r) h = reached_more (state r l t) h (withdraw x)
+  withdraw_reaches x None h = tt
+  withdraw_reaches x (Some r) h = reached_more (state r l t) h (withdraw x)
 
-plan_site : (w : World) (c : Current) → w.site.current ≡ c → (plan_line w).world.site ≡ w.site
+plan_site : (w : World) (c : Option Round) → w.site.current ≡ c → (plan_line w).world.site ≡ w.site
 unfolding plan_line
-plan_site w current.Nothing e = rw e
-plan_site w (current.Open r) e = rw e
+plan_site w None e = rw e
+plan_site w (Some r) e = rw e
 
-answered_reaches : (w : World) (c : Command) → SiteReached w.site → SiteReached (answered w c).world.site
+answered_reaches : (w : World) (c : Told Command) → SiteReached w.site → SiteReached (answered w c).world.site
 unfolding answered open_line
-answered_reaches w (command.Open key k n) h = open_reaches key k n w.site h (open_call key k n w.site.list).told (open_call key k n w.site.list).list refl
-answered_reaches w command.Admit h = admit_reaches w.site.list w.site.table w.site.current h
-answered_reaches w command.Join h = join_reaches w.site.list w.site.table w.site.current h
-answered_reaches w (command.Withdraw x) h = withdraw_reaches w.site.list w.site.table x w.site.current h
-answered_reaches w command.Plan h = subst SiteReached (sym (plan_site w w.site.current refl)) h
-answered_reaches w (command.Refused c) h = h
+answered_reaches w (says (command.Open key k n)) h = open_reaches key k n w.site h (open_call key k n w.site.list).told (open_call key k n w.site.list).list refl
+answered_reaches w (says command.Admit) h = admit_reaches w.site.list w.site.table w.site.current h
+answered_reaches w (says command.Join) h = join_reaches w.site.list w.site.table w.site.current h
+answered_reaches w (says (command.Withdraw x)) h = withdraw_reaches w.site.list w.site.table x w.site.current h
+answered_reaches w (says command.Plan) h = subst SiteReached (sym (plan_site w w.site.current refl)) h
+answered_reaches w (refusal c) h = h
 
 pub lines_reach : (ls : List (List ℕ)) (w : World) → SiteReached w.site → SiteReached (after_lines w ls).site
 unfolding respond
@@ -100,7 +99,7 @@ lines_reach (l ∷ ls) w h = lines_reach ls (respond w l).world (answered_reache
 -- ---- the plan
 
 -- the line `plan` where a round stands that is reached so, with lists and scratch long enough
-plan_by_lem : (w : World) (r : Round) → w.site.current ≡ current.Open r → Reached (state r w.site.list w.site.table)
+plan_by_lem : (w : World) (r : Round) → w.site.current ≡ Some r → Reached (state r w.site.list w.site.table)
     → Enough r.k (length w.site.table) w.locations w.terminals w.places
     → (respond w plan_word).reply ≡ replied Replies.planned (plan_from r.master_key r.k r.n (actives w.site.table r.total))
 unfolding respond command_of word_alone answered plan_line
@@ -109,17 +108,17 @@ plan_by_lem w r e h enough =
     rw e (ap (replied Replies.planned) (own_plan s (reached_kept s h) w.locations w.terminals w.places enough))
 
 -- from no round, after any lines: a round that is open then is reached so
-begins : (w : World) → w.site.current ≡ current.Nothing → SiteReached w.site
-begins w none = subst (λ (c : Current). Reaches c w.site.list w.site.table) (sym none) tt
+begins : (w : World) → w.site.current ≡ None → SiteReached w.site
+begins w none = subst (λ (c : Option Round). Reaches c w.site.list w.site.table) (sym none) tt
 
-reached_after : (w : World) → w.site.current ≡ current.Nothing → (ls : List (List ℕ)) (r : Round) → (after_lines w ls).site.current ≡ current.Open r
+reached_after : (w : World) → w.site.current ≡ None → (ls : List (List ℕ)) (r : Round) → (after_lines w ls).site.current ≡ Some r
     → Reached (state r (after_lines w ls).site.list (after_lines w ls).site.table)
 reached_after w none ls r e =
     let v = after_lines w ls in
-    subst (λ (c : Current). Reaches c v.site.list v.site.table) e (lines_reach ls w (begins w none))
+    subst (λ (c : Option Round). Reaches c v.site.list v.site.table) e (lines_reach ls w (begins w none))
 
 -- THE THEOREM. From no round, after any lines: where a round is open, `plan` prints the ledger's plan.
-pub plan_ledger : (w : World) → w.site.current ≡ current.Nothing → (ls : List (List ℕ)) (r : Round) → (after_lines w ls).site.current ≡ current.Open r
+pub plan_ledger : (w : World) → w.site.current ≡ None → (ls : List (List ℕ)) (r : Round) → (after_lines w ls).site.current ≡ Some r
     → Enough r.k (length (after_lines w ls).site.table) (after_lines w ls).locations (after_lines w ls).terminals (after_lines w ls).places
     → (respond (after_lines w ls) plan_word).reply
     ≡ replied Replies.planned (plan_from r.master_key r.k r.n (actives (after_lines w ls).site.table r.total))
@@ -158,37 +157,37 @@ unfolding open_line open_call
 open_lengths key k n s = replaced_lengths s (open_call key k n s.list).told (open_call key k n s.list).list (open_length k n key s.list)
 
 module _ (l t : List ℕ) where
-  admit_lengths : (c : Current) → AsLong (admit_line (site c l t)).site (site c l t)
+  admit_lengths : (c : Option Round) → AsLong (admit_line (site c l t)).site (site c l t)
   unfolding admit_line call
-  admit_lengths current.Nothing = (refl, refl)
-  admit_lengths (current.Open r) = (step_length (state r l t) admit, step_bytes (state r l t) admit)
+  admit_lengths None = (refl, refl)
+  admit_lengths (Some r) = (step_length (state r l t) admit, step_bytes (state r l t) admit)
 
-  join_lengths : (c : Current) → AsLong (join_line (site c l t)).site (site c l t)
+  join_lengths : (c : Option Round) → AsLong (join_line (site c l t)).site (site c l t)
   unfolding join_line call
-  join_lengths current.Nothing = (refl, refl)
-  join_lengths (current.Open r) = (step_length (state r l t) join, step_bytes (state r l t) join)
+  join_lengths None = (refl, refl)
+  join_lengths (Some r) = (step_length (state r l t) join, step_bytes (state r l t) join)
 
-  withdraw_lengths : (x : ℕ) (c : Current) → AsLong (withdraw_line x (site c l t)).site (site c l t)
+  withdraw_lengths : (x : ℕ) (c : Option Round) → AsLong (withdraw_line x (site c l t)).site (site c l t)
   unfolding withdraw_line call
-  withdraw_lengths x current.Nothing = (refl, refl)
-  withdraw_lengths x (current.Open r) = (step_length (state r l t) (withdraw x), step_bytes (state r l t) (withdraw x))
+  withdraw_lengths x None = (refl, refl)
+  withdraw_lengths x (Some r) = (step_length (state r l t) (withdraw x), step_bytes (state r l t) (withdraw x))
 
-plan_line_lengths : (w : World) (c : Current) → w.site.current ≡ c → Reaches c w.site.list w.site.table → lengths (plan_line w).world ≡ lengths w
+plan_line_lengths : (w : World) (c : Option Round) → w.site.current ≡ c → Reaches c w.site.list w.site.table → lengths (plan_line w).world ≡ lengths w
 unfolding plan_line
-plan_line_lengths w current.Nothing e h = rw e
-plan_line_lengths w (current.Open r) e h =
+plan_line_lengths w None e h = rw e
+plan_line_lengths w (Some r) e h =
     let s = state r w.site.list w.site.table in
     let p = plan_lengths s (reached_kept s h) w.locations w.terminals w.places in
     rw e (λ i. lengths_by (length w.site.list) (length w.site.table) (p.0 i) (p.1 i) w.places)
 
-answered_lengths : (w : World) (c : Command) → SiteReached w.site → lengths (answered w c).world ≡ lengths w
+answered_lengths : (w : World) (c : Told Command) → SiteReached w.site → lengths (answered w c).world ≡ lengths w
 unfolding answered
-answered_lengths w (command.Open key k n) h = site_lengths w (open_line key k n w.site).site (open_lengths key k n w.site)
-answered_lengths w command.Admit h = site_lengths w (admit_line w.site).site (admit_lengths w.site.list w.site.table w.site.current)
-answered_lengths w command.Join h = site_lengths w (join_line w.site).site (join_lengths w.site.list w.site.table w.site.current)
-answered_lengths w (command.Withdraw x) h = site_lengths w (withdraw_line x w.site).site (withdraw_lengths w.site.list w.site.table x w.site.current)
-answered_lengths w command.Plan h = plan_line_lengths w w.site.current refl h
-answered_lengths w (command.Refused c) h = refl
+answered_lengths w (says (command.Open key k n)) h = site_lengths w (open_line key k n w.site).site (open_lengths key k n w.site)
+answered_lengths w (says command.Admit) h = site_lengths w (admit_line w.site).site (admit_lengths w.site.list w.site.table w.site.current)
+answered_lengths w (says command.Join) h = site_lengths w (join_line w.site).site (join_lengths w.site.list w.site.table w.site.current)
+answered_lengths w (says (command.Withdraw x)) h = site_lengths w (withdraw_line x w.site).site (withdraw_lengths w.site.list w.site.table x w.site.current)
+answered_lengths w (says command.Plan) h = plan_line_lengths w w.site.current refl h
+answered_lengths w (refusal c) h = refl
 
 lines_lengths : (ls : List (List ℕ)) (w : World) → SiteReached w.site → lengths (after_lines w ls) ≡ lengths w
 unfolding respond
@@ -224,7 +223,7 @@ roomy_same w v e room =
     record { locations = omega (arith, room.locations); terminals = omega (arith, room.terminals); scratch = omega (arith, room.scratch) }
 
 -- With such memory nothing is asked of the round: from no round, after any lines, `plan` prints the ledger's plan.
-pub plan_ledger_lent : (w : World) → w.site.current ≡ current.Nothing → Roomy w → (ls : List (List ℕ)) (r : Round) → (after_lines w ls).site.current ≡ current.Open r
+pub plan_ledger_lent : (w : World) → w.site.current ≡ None → Roomy w → (ls : List (List ℕ)) (r : Round) → (after_lines w ls).site.current ≡ Some r
     → (respond (after_lines w ls) plan_word).reply
     ≡ replied Replies.planned (plan_from r.master_key r.k r.n (actives (after_lines w ls).site.table r.total))
 plan_ledger_lent w none room ls r e =

@@ -1,4 +1,5 @@
 pub mod CommandLaws
+pub mod FieldLaws
 pub mod CommandExamples
 pub mod DecimalLaws
 pub mod PutLaws
@@ -7,7 +8,6 @@ pub mod TextExamples
 pub mod HeldLaws
 pub mod StreamLaws
 pub mod LineLaws
-pub mod ActLaws
 pub mod FeedLaws
 pub mod PartLaws
 pub mod RunLaws

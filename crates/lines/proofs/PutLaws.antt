@@ -1,21 +1,25 @@
 -- Texts put into a list, one after another, and how long the texts of the answers are.
 -- Assumes nothing.
-use mathlib.Core.Path.{◌≡◌, refl, sym, ap, ◌∙◌}
+use mathlib.Core.Path.{◌≡◌, refl, sym, ap, ◌∙◌, subst}
 use mathlib.Core.List.{List, [], ◌∷◌, ◌++◌, append_assoc, append-nil}
 use mathlib.Core.Option.{Option, none, some}
 use Prim.Native.Nat.{ℕ, zero, suc, ◌+◌, ◌-◌, ◌*◌, ◌/◌, ◌%◌, ◌^◌, ◌≤◌, ◌<◌}
 use native.Mathlib.Numerals.{add-one}
 use native.Mathlib.Omega.{arith}
-use lib.ListN.{length, get_or, take, drop, set, length-append, length-take, length-drop, take-append-drop}
+use lib.ListN.{length, get_or, take, drop, set, length-append, length-take, length-drop, take-append-drop, drop_of_length-le}
 use lib.Seq.{append_snoc, set_at, set_split, take_at, drop_at, take-suc, take_all, drop-drop, length-take-le}
+use Rattle.std.proofs.lemmas.List.{drop-set}
+use borrow.Rule.Slice.PartMut.{put_mid}
 use Rattle.lists.specs.Lists.{written}
+use Rattle.lists.proofs.Tests.{by_below}
 use Rattle.rounds.specs.Plans.{Sheet, sheet, sheets}
 use Rattle.lines.specs.Replies.{decimal_of, slot_text, place_line, place_lines, text_of}
-use Rattle.lines.specs.InnerLines.{Put, line_of, reply_of}
-use Rattle.lines.specs.declared.texts.Answer.{Answer}
-use Rattle.lines.specs.declared.texts.Answer.TheVariants as answer
-use Rattle.lines.specs.declared.texts.Output.{Output}
-use Rattle.lines.specs.declared.texts.Output.TheVariants as output
+use Rattle.lines.specs.InnerLines.{Put, Puts}
+use Rattle.lines.specs.declared.texts.Text.{Text}
+use Rattle.std.specs.Prelude as rust
+use Rattle.std.specs.List.{zip, range_with_len}
+use Rattle.std.proofs.lemmas.Iterator.{YieldsList}
+use Rattle.lines.proofs.FieldLaws.{next_some, next_none}
 use Rattle.lines.proofs.DecimalLaws.{decimal_one, decimal_snoc, decimal_pos, length_decimal, length_tabbed}
 
 -- ---- one text after another
@@ -78,127 +82,96 @@ put_written xs old text p = (put_then first p).bytes
     first : Put old 0 xs (written xs old) (length xs)
     first = record { within = omega arith; next_is = omega arith; bytes = refl }
 
--- ---- a loop that copies a text
+-- a text in the places of a list, which were lent for it
+pub put_places : (l text part : List ℕ) (at k next : ℕ) → at + length text ≤ length l → k ≡ length text → next ≡ at + length text → part ≡ text
+    → Put l at text (put_mid at k l part) next
+unfolding written
+put_places l text part at k next h e n p = rw (e, n, p) (record { within = omega arith; next_is = refl; bytes = refl })
 
-pub put_start : (l text : List ℕ) (at : ℕ) → at ≤ length l → Put l at (take 0 text) l (at + 0)
-put_start l text at h = let e : at + 0 ≡ at = omega arith in rw e (put_none l at h)
+-- ---- a loop that writes the digits of n, from the last to the first
 
-pub put_more : (l d text : List ℕ) (at i : ℕ) → i < length text → at + i < length d → Put l at (take i text) d (at + i)
-    → Put l at (take (i + 1) text) (set d (at + i) (get_or text i 0)) (at + (i + 1))
-put_more l d text at i h k p =
-    let e : at + (i + 1) ≡ at + i + 1 = omega arith in
-    let f : take (i + 1) text ≡ take i text ++ (get_or text i 0 ∷ []) = rw (add-one, take-suc text i 0 h) in
-    rw (e, f) (put_then p (put_byte d (at + i) (get_or text i 0) k))
+-- From the place i on stand the last ones; those of left, if any, are not written yet.
+pub record Spelling (n : ℕ) (list : List ℕ) (i left : ℕ) : Type 0 where
+  pub front : List ℕ
+  pub digits : decimal_of n ≡ front ++ drop i list
+  pub place : i ≡ length front
+  pub more : 0 < i → front ≡ decimal_of left
 
-pub put_whole : (l d text : List ℕ) (at i : ℕ) → length text ≤ i → Put l at (take i text) d (at + i) → Put l at text d (at + i)
-put_whole l d text at i h p = rw (take_all i text h) at p
+pub spelling_start : (n : ℕ) (list : List ℕ) → length list ≡ length (decimal_of n) → Spelling n list (length list) n
+spelling_start n list h = record {
+  front = decimal_of n;
+  digits = rw (drop_of_length-le list {i = length list} (omega arith)) (sym (append-nil (decimal_of n)));
+  place = h;
+  more = λ _. refl;
+}
 
--- ---- a loop that puts the digits of n, from the last to the first
+module _ (n : ℕ) (list : List ℕ) (i left : ℕ) (s : Spelling n list (suc i) left) (inside : i < length list) where
+  behind : (b : ℕ) → drop i (set list i b) ≡ b ∷ drop (suc i) list
+  behind b = drop-set list i b inside ∙ ap (λ (k : ℕ). b ∷ drop k list) (add-one i)
 
--- Those of left are not put yet: from the place i on stand the others, and what stood behind them.
-pub record Spelling (old : List ℕ) (at n : ℕ) (list : List ℕ) (i left : ℕ) : Type 0 where
-  pub rest : List ℕ
-  pub digits : decimal_of n ≡ decimal_of left ++ rest
-  pub place : i ≡ at + length (decimal_of left)
-  pub list_is : list ≡ take i old ++ (rest ++ drop (at + length (decimal_of n)) old)
+  ones : left < 10 → 48 + left ≡ 48 + left % 10
+  ones l = omega arith
 
-pub spelling_start : (old : List ℕ) (at n : ℕ) → Spelling old at n old (at + length (decimal_of n)) n
-spelling_start old at n =
-    record {
-      rest = [];
-      digits = sym (append-nil (decimal_of n));
-      place = refl;
-      list_is = sym (take-append-drop (at + length (decimal_of n)) old);
-    }
-
--- a digit written in front of the others
-front_set : (old rest : List ℕ) (i b : ℕ) → i < length old → set (take (suc i) old ++ rest) i b ≡ take i old ++ b ∷ rest
-front_set old rest i b h =
-    rw (take-suc old i 0 h, append_snoc) (set_at (take i old) (get_or old i 0) rest b i (length-take-le i old (omega arith)))
-
-module _ (old : List ℕ) (at n : ℕ) (list : List ℕ) (i left : ℕ) (s : Spelling old at n list i left) (fits : at + length (decimal_of n) ≤ length old) where
-  long : length (decimal_of n) ≡ length (decimal_of left) + length s.rest
-  long = ap length s.digits ∙ length-append (decimal_of left) s.rest
-
-  -- the place for the next digit is in the list, and behind the text's start
-  pub spelling_place : (at < i) × (i ≤ length old)
-  spelling_place = (omega (arith, s.place, decimal_pos left), omega (arith, s.place, long))
-
-  pub length_spelling : length list ≡ length old
-  length_spelling =
-      ap length s.list_is ∙ simp (length-append, length-take, length-drop) (omega (arith, s.place, long))
-
-  put_digit : (b : ℕ) → set list (i - 1) b ≡ take (i - 1) old ++ b ∷ (s.rest ++ drop (at + length (decimal_of n)) old)
-  put_digit b =
-      let p = spelling_place in
-      let e : i ≡ suc (i - 1) = omega (arith, p.0) in
-      let rest = s.rest ++ drop (at + length (decimal_of n)) old in
-      let is : list ≡ take (suc (i - 1)) old ++ rest = s.list_is ∙ ap (λ (k : ℕ). take k old ++ rest) e in
-      ap (λ (l : List ℕ). set l (i - 1) b) is ∙ front_set old rest (i - 1) b (omega (arith, p.0, p.1))
-
-  pub spelling_turn : 10 ≤ left → left < 10 ^ 10 → Spelling old at n (set list (i - 1) (48 + left % 10)) (i - 1) (left / 10)
-  spelling_turn g h =
+  spelling_turn : left < 10 ^ 10 → Spelling n (set list i (48 + left % 10)) i (left / 10)
+  spelling_turn h =
+      let d : s.front ≡ decimal_of left = s.more (omega arith) in
+      let p = s.place in
       let last = 48 + left % 10 in
-      let cut : decimal_of left ≡ decimal_of (left / 10) ++ (last ∷ []) = decimal_snoc left g h in
-      let count : length (decimal_of left) ≡ length (decimal_of (left / 10)) + 1 = ap length cut ∙ length-append (decimal_of (left / 10)) (last ∷ []) in
+      by_below left 10
+      (λ l. let one : decimal_of left ≡ (48 + left) ∷ [] = decimal_one left l in
       record {
-        rest = last ∷ s.rest;
-        digits = s.digits ∙ ap (λ (l : List ℕ). l ++ s.rest) cut ∙ append_snoc (decimal_of (left / 10)) last s.rest;
-        place = omega (arith, s.place, count);
-        list_is = put_digit last;
-      }
+        front = [];
+        digits = s.digits ∙ ap (λ (f : List ℕ). f ++ drop (suc i) list) (d ∙ one) ∙ ap (λ (b : ℕ). b ∷ drop (suc i) list) (ones l) ∙ sym (behind last);
+        place = omega (arith, ap length (d ∙ one));
+        more = λ z. absurd (omega (arith, z, ap length (d ∙ one)));
+      })
+      (λ l. let cut : decimal_of left ≡ decimal_of (left / 10) ++ (last ∷ []) = decimal_snoc left l h in
+      record {
+        front = decimal_of (left / 10);
+        digits =
+            s.digits
+            ∙ ap (λ (f : List ℕ). f ++ drop (suc i) list) (d ∙ cut)
+            ∙ append_snoc (decimal_of (left / 10)) last (drop (suc i) list)
+            ∙ ap (λ (r : List ℕ). decimal_of (left / 10) ++ r) (sym (behind last));
+        place = omega (arith, ap length (d ∙ cut), length-append (decimal_of (left / 10)) (last ∷ []));
+        more = λ _. refl;
+      })
 
-  pub spelling_end : left < 10 → Put old at (decimal_of n) (set list (i - 1) (48 + left)) (at + length (decimal_of n))
-  spelling_end h =
-      let cut : decimal_of left ≡ (48 + left) ∷ [] = decimal_one left h in
-      let e : i - 1 ≡ at = omega (arith, s.place, ap length cut) in
-      let all : decimal_of n ≡ (48 + left) ∷ s.rest = s.digits ∙ ap (λ (l : List ℕ). l ++ s.rest) cut in
-      put_of
-      (omega arith)
-      refl
-      (put_digit (48 + left)
-      ∙ ap (λ (k : ℕ). take k old ++ (48 + left) ∷ (s.rest ++ drop (at + length (decimal_of n)) old)) e
-      ∙ ap (λ (l : List ℕ). take at old ++ (l ++ drop (at + length (decimal_of n)) old)) (sym all))
+pub spelling_more : (n : ℕ) (list : List ℕ) (i left : ℕ) → Spelling n list i left → 0 < i → i ≤ length list → left < 10 ^ 10 → Spelling n (set list (i - 1) (48 + left % 10)) (i - 1) (left / 10)
+spelling_more n list i left s p q h =
+    let e : i ≡ suc (i - 1) = omega arith in
+    spelling_turn n list (i - 1) left (subst (λ (k : ℕ). Spelling n list k left) e s) (omega arith) h
+
+pub spelling_end : (n : ℕ) (list : List ℕ) (left : ℕ) → Spelling n list 0 left → list ≡ decimal_of n
+spelling_end n list left s = sym (s.digits ∙ ap (λ (f : List ℕ). f ++ list) (nothing s.front s.place))
+  where
+    nothing : (f : List ℕ) → 0 ≡ length f → f ≡ []
+    nothing [] e = refl
+    nothing (x ∷ f) e = absurd (omega arith)
 
 -- ---- the lines of a plan
 
--- one place more
-sheets_more : (i : ℕ) (ls ts : List ℕ) → i < length ls → i < length ts
-    → sheets (take (suc i) ls) (take (suc i) ts) ≡ sheets (take i ls) (take i ts) ++ (sheet (get_or ls i 0) (some (get_or ts i 0)) ∷ [])
-sheets_more i [] ts h k = absurd (omega arith)
-sheets_more i (x ∷ ls) [] h k = absurd (omega arith)
-sheets_more zero (x ∷ ls) (t ∷ ts) h k = refl
-sheets_more (suc i) (x ∷ ls) (t ∷ ts) h k =
-    ap (λ (l : List Sheet). sheet x (some t) ∷ l) (sheets_more i ls ts (omega arith) (omega arith))
+-- those of places, each with its location and its slot
+abbrev pub lines : List (ℕ × (ℕ × ℕ)) → List ℕ
+lines [] = []
+lines (p ∷ ps) = place_line p.0 (sheet p.1.0 (some p.1.1)) ++ lines ps
 
-length_sheets : (ls ts : List ℕ) → length (sheets ls ts) ≤ length ls
-length_sheets [] ts = omega arith
-length_sheets (x ∷ ls) [] = omega arith
-length_sheets (x ∷ ls) (t ∷ ts) = omega (arith, length_sheets ls ts)
+-- the first k places of two lists
+pub lines_zip : (a k : ℕ) (ls ts : List ℕ) → place_lines a (sheets (take k ls) (take k ts)) ≡ lines (zip (range_with_len a k) (zip ls ts))
+lines_zip a zero ls ts = refl
+lines_zip a (suc k) [] ts = refl
+lines_zip a (suc k) (x ∷ ls) [] = refl
+lines_zip a (suc k) (x ∷ ls) (t ∷ ts) =
+    ap (λ (l : List ℕ). place_line a (sheet x (some t)) ++ l)
+    (lines_zip (suc a) k ls ts ∙ ap (λ (n : ℕ). lines (zip (range_with_len n k) (zip ls ts))) (sym (add-one a)))
 
-length_sheets_is : (i : ℕ) (ls ts : List ℕ) → i ≤ length ls → i ≤ length ts → length (sheets (take i ls) (take i ts)) ≡ i
-length_sheets_is zero ls ts h k = refl
-length_sheets_is (suc i) [] ts h k = absurd (omega arith)
-length_sheets_is (suc i) (x ∷ ls) [] h k = absurd (omega arith)
-length_sheets_is (suc i) (x ∷ ls) (t ∷ ts) h k = ap suc (length_sheets_is i ls ts (omega arith) (omega arith))
+length_zip : {A B : Type 0} (ks : List A) (vs : List B) → (length (zip ks vs) ≤ length ks) × (length (zip ks vs) ≤ length vs)
+length_zip [] vs = (omega arith, omega arith)
+length_zip (k ∷ ks) [] = (omega arith, omega arith)
+length_zip (k ∷ ks) (v ∷ vs) = let l = length_zip ks vs in (omega (arith, l), omega (arith, l))
 
-lines_more : (place : ℕ) (ss : List Sheet) (s : Sheet) → place_lines place (ss ++ (s ∷ [])) ≡ place_lines place ss ++ place_line (place + length ss) s
-lines_more place [] s =
-    let e : place ≡ place + 0 = omega arith in
-    append-nil (place_line place s) ∙ ap (λ (p : ℕ). place_line p s) e
-lines_more place (x ∷ ss) s =
-    let e : suc place + length ss ≡ place + suc (length ss) = omega arith in
-    ap (λ (l : List ℕ). place_line place x ++ l) (lines_more (suc place) ss s ∙ ap (λ (p : ℕ). place_lines (suc place) ss ++ place_line p s) e)
-    ∙ sym (append_assoc (place_line place x) (place_lines (suc place) ss) (place_line (place + suc (length ss)) s))
-
-pub plan_more : (i : ℕ) (ls ts : List ℕ) → i < length ls → i < length ts
-    → place_lines 0 (sheets (take (i + 1) ls) (take (i + 1) ts))
-    ≡ place_lines 0 (sheets (take i ls) (take i ts)) ++ place_line i (sheet (get_or ls i 0) (some (get_or ts i 0)))
-plan_more i ls ts h k =
-    let ss = sheets (take i ls) (take i ts) in
-    let s = sheet (get_or ls i 0) (some (get_or ts i 0)) in
-    let e : 0 + length ss ≡ i = omega (arith, length_sheets_is i ls ts (omega arith) (omega arith)) in
-    rw (add-one, sheets_more i ls ts h k) (lines_more 0 ss s ∙ ap (λ (p : ℕ). place_lines 0 ss ++ place_line p s) e)
+pub length_places_zip : (ks ls ts : List ℕ) → length (zip ks (zip ls ts)) ≤ length ls
+length_places_zip ks ls ts = omega (arith, length_zip ks (zip ls ts), length_zip ls ts)
 
 -- ---- how long the texts are
 
@@ -210,28 +183,49 @@ pub length_place : (i : ℕ) (s : Sheet) → length (place_line i s) ≤ 33
 unfolding place_line
 length_place i s = simp length-append (omega (arith, length_decimal i, length_tabbed s.location, length_slot s.terminal))
 
-pub length_places : (i : ℕ) (ss : List Sheet) → length (place_lines i ss) ≤ 33 * length ss
-length_places i [] = omega arith
-length_places i (s ∷ ss) = simp length-append (omega (arith, length_place i s, length_places (suc i) ss))
+-- ---- a loop that puts the lines of a plan
 
--- the first i places of a plan
-pub length_plan : (i : ℕ) (ls ts : List ℕ) → length (place_lines 0 (sheets (take i ls) (take i ts))) ≤ 33 * i
-length_plan i ls ts =
-    let ss = sheets (take i ls) (take i ts) in
-    omega (arith, length_places 0 ss, length_sheets (take i ls) (take i ts), length-take i ls)
+-- so far: the iterator still yields the places of the lines that are not put yet
+pub record Listing {S A : Type 0} (steps : S → rust.Option A → S → Type 0) (v : A → ℕ × (ℕ × ℕ)) (it : S) (all : List ℕ) (places : ℕ) (t u : Text) : Type 0 where
+  pub rest : List (ℕ × (ℕ × ℕ))
+  pub yields : YieldsList steps v it rest
+  pub front : List ℕ
+  pub is : all ≡ front ++ lines rest
+  pub puts : Puts t front u
+  pub room : length front + 33 * length rest ≤ 33 * places
 
-pub length_text : (a : Answer) → length (text_of (line_of a)) ≤ 32
-unfolding text_of
-length_text answer.Opened = omega arith
-length_text (answer.Admitted v o) = simp length-append (omega (arith, length_tabbed v, length_tabbed o))
-length_text answer.Nothing = omega arith
-length_text (answer.Joined s) = simp length-append (omega (arith, length_tabbed s))
-length_text (answer.Withdrawn s) = simp length-append (omega (arith, length_tabbed s))
-length_text (answer.Refused c) = simp length-append (omega (arith, length_tabbed c))
+module _ {S A : Type 0} {steps : S → rust.Option A → S → Type 0} {v : A → ℕ × (ℕ × ℕ)} {it : S} (all : List ℕ) (places : ℕ) (t : Text) where
+  pub listing_start : (rest : List (ℕ × (ℕ × ℕ))) → YieldsList steps v it rest → all ≡ lines rest → length rest ≤ places → Listing steps v it all places t t
+  listing_start rest w e l = record {
+    rest = rest;
+    yields = w;
+    front = [];
+    is = e;
+    puts = put_none t.out.now t.len t.fits;
+    room = omega arith;
+  }
 
-pub length_output : (o : Output) (ls ts : List ℕ) → length (text_of (reply_of o ls ts)) ≤ 33 * length ls + 32
-unfolding text_of
-length_output (output.Line a) ls ts = omega (arith, length_text a)
-length_output (output.Plan k) ls ts =
-    let ss = sheets (take k ls) (take k ts) in
-    omega (arith, length_places 0 ss, length_sheets (take k ls) (take k ts), length-take k ls)
+  module _ (u : Text) (l : Listing steps v it all places t u) where
+    pub listing_room : (x : A) (it' : S) → steps it (rust.Some x) it' → t.len + 33 * places ≤ length t.out.now → length u.out.now ≡ length t.out.now → u.len + 33 ≤ length u.out.now
+    listing_room x it' p h e =
+        let n = next_some {t = it'} {x = x} l.yields p in
+        omega (arith, l.puts.next_is, l.room, ap length n.is)
+
+    pub listing_more : (x : A) (it' : S) (u' : Text) → steps it (rust.Some x) it' → Puts u (place_line (v x).0 (sheet (v x).1.0 (some (v x).1.1))) u' → Listing steps v it' all places t u'
+    listing_more x it' u' p puts =
+        let n = next_some {t = it'} {x = x} l.yields p in
+        let line = place_line (v x).0 (sheet (v x).1.0 (some (v x).1.1)) in
+        record {
+          rest = n.rest;
+          yields = n.yields;
+          front = l.front ++ line;
+          is = l.is ∙ ap (λ (r : List (ℕ × (ℕ × ℕ))). l.front ++ lines r) n.is ∙ sym (append_assoc l.front line (lines n.rest));
+          puts = put_then l.puts puts;
+          room = omega (arith, l.room, ap length n.is, length-append l.front line, length_place (v x).0 (sheet (v x).1.0 (some (v x).1.1)));
+        }
+
+    pub listing_end : (it' : S) → steps it rust.None it' → Puts t all u
+    listing_end it' p =
+        let n = next_none {t = it'} l.yields p in
+        let e : all ≡ l.front = l.is ∙ ap (λ (r : List (ℕ × (ℕ × ℕ))). l.front ++ lines r) n ∙ append-nil l.front in
+        rw e l.puts

@@ -6,7 +6,7 @@ use Rattle.std.proofs.Math.Option.{Option, none, some}
 use Rattle.lists.specs.Told.{Told, refusal, says}
 use Rattle.lines.specs.Lines.{fields, alike}
 use Rattle.lines.specs.declared.commands.Command.{Command}
-use Rattle.lines.specs.declared.commands.Command.TheVariants.{Open, Admit, Join, Withdraw, Plan, Refused}
+use Rattle.lines.specs.declared.commands.Command.TheVariants.{Open, Admit, Join, Withdraw, Plan}
 
 -- ---- numbers
 
@@ -60,49 +60,41 @@ abbrev pub plan_word : List ℕ
 plan_word = 112 ∷ 108 ∷ 97 ∷ 110 ∷ []
 
 -- a word alone: admit, join, plan
-unfoldable pub word_alone : List ℕ → Command
-word_alone w = cond (alike w admit_word) Admit (cond (alike w join_word) Join (cond (alike w plan_word) Plan (Refused 12)))
+unfoldable pub word_alone : List ℕ → Told Command
+word_alone w = cond (alike w admit_word) (says Admit) (cond (alike w join_word) (says Join) (cond (alike w plan_word) (says Plan) (refusal 12)))
 
 -- withdraw and its slot
-abbrev pub withdraw_form : Option ℕ → Command
-withdraw_form none = Refused 12
-withdraw_form (some s) = Withdraw s
+abbrev pub withdraw_form : Option ℕ → Told Command
+withdraw_form none = refusal 12
+withdraw_form (some s) = says (Withdraw s)
 
-unfoldable pub word_and_one : List ℕ → List ℕ → Command
-word_and_one w a = cond (alike w withdraw_word) (withdraw_form (number_of a)) (Refused 12)
+unfoldable pub word_and_one : List ℕ → List ℕ → Told Command
+word_and_one w a = cond (alike w withdraw_word) (withdraw_form (number_of a)) (refusal 12)
 
 -- "Open has key .., k, n"
-abbrev pub open_form : Option ℕ → Option ℕ → Option ℕ → Command
-open_form none k n = Refused 12
-open_form (some key) none n = Refused 12
-open_form (some key) (some k) none = Refused 12
-open_form (some key) (some k) (some n) = Open key k n
+abbrev pub open_form : Option ℕ → Option ℕ → Option ℕ → Told Command
+open_form none k n = refusal 12
+open_form (some key) none n = refusal 12
+open_form (some key) (some k) none = refusal 12
+open_form (some key) (some k) (some n) = says (Open key k n)
 
-unfoldable pub word_and_three : List ℕ → List ℕ → List ℕ → List ℕ → Command
-word_and_three w a b c = cond (alike w open_word) (open_form (key_of a) (number_of b) (number_of c)) (Refused 12)
+unfoldable pub word_and_three : List ℕ → List ℕ → List ℕ → List ℕ → Told Command
+word_and_three w a b c = cond (alike w open_word) (open_form (key_of a) (number_of b) (number_of c)) (refusal 12)
 
-abbrev pub by_fields : List (List ℕ) → Command
-by_fields [] = Refused 12
+abbrev pub by_fields : List (List ℕ) → Told Command
+by_fields [] = refusal 12
 by_fields (w ∷ []) = word_alone w
 by_fields (w ∷ a ∷ []) = word_and_one w a
-by_fields (w ∷ a ∷ b ∷ []) = Refused 12
+by_fields (w ∷ a ∷ b ∷ []) = refusal 12
 by_fields (w ∷ a ∷ b ∷ c ∷ []) = word_and_three w a b c
-by_fields (w ∷ a ∷ b ∷ c ∷ d ∷ more) = Refused 12
+by_fields (w ∷ a ∷ b ∷ c ∷ d ∷ more) = refusal 12
 
 -- "lines to 80 bytes (a longer one has no known form)"
-unfoldable pub command_of : List ℕ → Command
-command_of line = cond (leb (length line) 80) (by_fields (fields line)) (Refused 12)
+unfoldable pub command_of : List ℕ → Told Command
+command_of line = cond (leb (length line) 80) (by_fields (fields line)) (refusal 12)
 
 -- ---- what is told of a line
 
 -- 01's number, or what the line asks for
-abbrev pub told_command : Command → Told Command
-told_command (Refused c) = refusal c
-told_command (Open key k n) = says (Open key k n)
-told_command Admit = says Admit
-told_command Join = says Join
-told_command (Withdraw x) = says (Withdraw x)
-told_command Plan = says Plan
-
 unfoldable pub parse_call : List ℕ → Told Command
-parse_call line = told_command (command_of line)
+parse_call line = command_of line

@@ -1,53 +1,44 @@
 -- What private functions promise of lines and texts. No public promise cites this file.
 -- Assumes nothing.
-use Rattle.std.specs.Prelude.{◌≡◌, cond, List, [], ◌∷◌, ◌++◌, ℕ, suc, ◌+◌, ◌≤◌, eqb, length, take, drop}
-use Rattle.std.proofs.Math.Option.{Option, none, some}
+use Rattle.std.specs.Prelude.{◌≡◌, List, ◌++◌, ℕ, ◌+◌, ◌≤◌, length, take, drop, Option, Some, None, Result, Ok, Err}
+use Rattle.answers.specs.Refusals.{number}
+use Rattle.answers.specs.declared.Refusal.{Refusal}
+use Rattle.orders.specs.declared.consistent_reservoir.Exchange.{Exchange}
+use Rattle.lists.specs.Told.{Told, refusal, says}
 use Rattle.lists.specs.Lists.{written}
+use Rattle.lines.specs.declared.commands.Command.{Command}
 use Rattle.rounds.specs.Plans.{sheets}
 use Rattle.lines.specs.Replies.{Reply, opened, admitted, nothing, joined, withdrawn, planned, refused}
-use Rattle.lines.specs.declared.commands.Wide.{Wide}
-use Rattle.lines.specs.declared.commands.Wide.TheVariants as wide
-use Rattle.lines.specs.declared.commands.Small.{Small}
-use Rattle.lines.specs.declared.commands.Small.TheVariants as small
+use Rattle.lines.specs.declared.texts.Text.{Text}
 use Rattle.lines.specs.declared.texts.Answer.{Answer}
 use Rattle.lines.specs.declared.texts.Answer.TheVariants as answer
-use Rattle.lines.specs.declared.texts.Output.{Output}
-use Rattle.lines.specs.declared.texts.Output.TheVariants as output
 
 -- ---- a line taken apart
 
--- where the first byte of a kind is, or the length
-abbrev pub place_of : ℕ → List ℕ → ℕ
-place_of x [] = 0
-place_of x (b ∷ l) = cond (eqb b x) 0 (suc (place_of x l))
-
-abbrev pub wide_of : Wide → Option ℕ
-wide_of (wide.Number v) = some v
-wide_of wide.None = none
-
-abbrev pub small_of : Small → Option ℕ
-small_of (small.Number v) = some v
-small_of small.None = none
+-- what a form tells of a line: refusal 12 where the line has another
+abbrev pub told_form : Option Command → Told Command
+told_form (Some c) = says c
+told_form None = refusal 12
 
 -- ---- an answer as code has it
 
-abbrev pub line_of : Answer → Reply
-line_of answer.Opened = opened
-line_of (answer.Admitted v o) = admitted v o
-line_of answer.Nothing = nothing
-line_of (answer.Joined s) = joined s
-line_of (answer.Withdrawn s) = withdrawn s
-line_of (answer.Refused c) = refused c
+-- "the location in and the one out, or the word none alone"
+abbrev pub admitted_reply : Option Exchange → Reply
+admitted_reply (Some e) = admitted e.enters e.leaves
+admitted_reply None = nothing
 
--- a line, or the first k places of the plan's two lists
-abbrev pub reply_of : Output → List ℕ → List ℕ → Reply
-reply_of (output.Line a) ls ts = line_of a
-reply_of (output.Plan k) ls ts = planned (sheets (take k ls) (take k ts))
+-- of a plan the first k places of its two lists
+abbrev pub line_of : Answer → List ℕ → List ℕ → Reply
+line_of answer.Opened ls ts = opened
+line_of (answer.Admitted e) ls ts = admitted_reply e
+line_of (answer.Joined s) ls ts = joined s
+line_of (answer.Withdrawn s) ls ts = withdrawn s
+line_of (answer.Planned k) ls ts = planned (sheets (take k ls) (take k ts))
 
--- a plan's places stand in both lists
-abbrev pub Printable : Output → List ℕ → List ℕ → Type 0
-Printable (output.Line a) ls ts = Unit {0}
-Printable (output.Plan k) ls ts = (k ≤ length ls) × (k ≤ length ts)
+-- an answer, or a refusal by its number
+abbrev pub reply_of : Result Answer Refusal → List ℕ → List ℕ → Reply
+reply_of (Ok a) ls ts = line_of a ls ts
+reply_of (Err why) ls ts = refused (number why)
 
 -- ---- a text put into a list
 
@@ -56,3 +47,15 @@ pub record Put (before : List ℕ) (at : ℕ) (text after : List ℕ) (next : �
   pub within : at ≤ length before
   pub next_is : next ≡ at + length text
   pub bytes : after ≡ take at before ++ written text (drop at before)
+
+-- so many bytes more
+abbrev pub HasRoom : Text → ℕ → Type 0
+HasRoom t n = t.len + n ≤ length t.out.now
+
+-- texts in the same list, which keeps its length
+abbrev pub SameList : Text → Text → Type 0
+SameList t t' = (t'.out.ghost_name ≡ t.out.ghost_name) × (length t'.out.now ≡ length t.out.now)
+
+-- a text that has grown by another
+abbrev pub Puts : Text → List ℕ → Text → Type 0
+Puts t text t' = Put t.out.now t.len text t'.out.now t'.len

@@ -1,7 +1,7 @@
 -- Document 01, **The line program**: what is answered to a line, and what it leaves to the next.
 -- Assumes nothing.
-use Rattle.std.specs.Prelude.{List, [], ◌∷◌, ◌++◌, ℕ}
-use Rattle.std.proofs.Math.Option.{Option, none, some}
+use Rattle.std.specs.Prelude.{List, [], ◌∷◌, ◌++◌, ℕ, Option, Some, None}
+use Rattle.std.proofs.Math.Option as maybe
 use Rattle.lists.specs.Told.{Told, refusal, says}
 use Rattle.rounds.specs.declared.round.Round.{Round}
 use Rattle.rounds.specs.Rounds.{state, open_call, After, admit_call, join_call, withdraw_call}
@@ -10,8 +10,6 @@ use Rattle.lines.specs.Commands.{command_of}
 use Rattle.lines.specs.Replies.{Reply, opened, admitted, nothing, joined, withdrawn, planned, refused, text_of}
 use Rattle.lines.specs.declared.commands.Command.{Command}
 use Rattle.lines.specs.declared.commands.Command.TheVariants as command
-use Rattle.lines.specs.declared.sessions.Current.{Current}
-use Rattle.lines.specs.declared.sessions.Current.TheVariants as current
 
 -- a refusal by its number, or what is answered otherwise
 abbrev pub replied : {A : Type 0} → (A → Reply) → Told A → Reply
@@ -22,11 +20,11 @@ replied f (says x) = f x
 
 -- the round, if there is one yet, with its list and its table
 pub record Site : Type 0 where
-  pub current : Current
+  pub current : Option Round
   pub list : List ℕ
   pub table : List ℕ
 
-abbrev pub site : Current → List ℕ → List ℕ → Site
+abbrev pub site : Option Round → List ℕ → List ℕ → Site
 site c l t = record { current = c; list = l; table = t }
 
 -- what a call answers, and the round and its memory after it
@@ -40,24 +38,24 @@ said r s = record { reply = r; site = s }
 -- "An accepted open replaces the round"; a refused one changes nothing
 abbrev pub replaced : Site → Told Round → List ℕ → Said
 replaced s (refusal c) l = said (refused c) s
-replaced s (says r) l = said opened (site (current.Open r) l s.table)
+replaced s (says r) l = said opened (site (Some r) l s.table)
 
 unfoldable pub open_line : ℕ → ℕ → ℕ → Site → Said
 open_line key k n s = replaced s (open_call key k n s.list).told (open_call key k n s.list).list
 
 -- "any other call before one gets 12", and all is as it was; after one it is the round's call
-abbrev pub on_round : {A : Type 0} → Current → A → (Round → A) → A
-on_round current.Nothing before f = before
-on_round (current.Open r) before f = f r
+abbrev pub on_round : {A : Type 0} → Option Round → A → (Round → A) → A
+on_round None before f = before
+on_round (Some r) before f = f r
 
 -- what the round's call says, and what it leaves
 abbrev pub said_of : {A : Type 0} → (A → Reply) → After A → Said
-said_of f a = said (replied f a.told) (site (current.Open a.state.round) a.state.list a.state.table)
+said_of f a = said (replied f a.told) (site (Some a.state.round) a.state.list a.state.table)
 
 -- "the location in and the one out, or the word none alone"
-abbrev pub exchange_reply : Option (ℕ × ℕ) → Reply
-exchange_reply none = nothing
-exchange_reply (some p) = admitted p.0 p.1
+abbrev pub exchange_reply : maybe.Option (ℕ × ℕ) → Reply
+exchange_reply maybe.none = nothing
+exchange_reply (maybe.some p) = admitted p.0 p.1
 
 unfoldable pub admit_line : Site → Said
 admit_line s = on_round s.current (said (refused 12) s) (λ r. said_of exchange_reply (admit_call (state r s.list s.table)))
@@ -102,13 +100,13 @@ abbrev pub on_site : World → Said → Response
 on_site w a = response a.reply (world a.site w.locations w.terminals w.places)
 
 -- "12 .. a program line of no known form"
-unfoldable pub answered : World → Command → Response
-answered w (command.Open key k n) = on_site w (open_line key k n w.site)
-answered w command.Admit = on_site w (admit_line w.site)
-answered w command.Join = on_site w (join_line w.site)
-answered w (command.Withdraw x) = on_site w (withdraw_line x w.site)
-answered w command.Plan = plan_line w
-answered w (command.Refused c) = response (refused c) w
+unfoldable pub answered : World → Told Command → Response
+answered w (refusal c) = response (refused c) w
+answered w (says (command.Open key k n)) = on_site w (open_line key k n w.site)
+answered w (says command.Admit) = on_site w (admit_line w.site)
+answered w (says command.Join) = on_site w (join_line w.site)
+answered w (says (command.Withdraw x)) = on_site w (withdraw_line x w.site)
+answered w (says command.Plan) = plan_line w
 
 -- ---- lines
 

@@ -1,13 +1,14 @@
 -- Document 01, **The line program**: bytes that come in pieces, cut into lines, each answered where its line feed comes.
 -- Assumes nothing.
-use Rattle.std.specs.Prelude.{◌≡◌, cond, ◌||◌, List, [], ◌∷◌, ◌++◌, ℕ, ◌+◌, ◌-◌, ◌*◌, eqb, ltb, leb, length, take}
+use Rattle.std.specs.Prelude.{◌≡◌, cond, ◌||◌, List, [], ◌∷◌, ◌++◌, ℕ, ◌+◌, ◌-◌, ◌*◌, eqb, ltb, leb, length, take, Result, Ok, Err}
 use Rattle.lists.specs.Told.{Told, refusal, says}
+use Rattle.answers.specs.Refusals.{number}
+use Rattle.answers.specs.declared.Refusal.{Refusal}
 use Rattle.lists.specs.Lists.{written}
 use Rattle.lines.specs.Replies.{text_of}
 use Rattle.lines.specs.Sessions.{site, World, world, respond}
 use Rattle.lines.specs.declared.sessions.Session.{Session}
-use Rattle.lines.specs.declared.sessions.Feeding.{Feeding}
-use Rattle.lines.specs.declared.sessions.Feeding.TheVariants as feeding
+use Rattle.lines.specs.declared.sessions.Memory.{Memory}
 use Rattle.lines.specs.declared.sessions.Fed.{Fed}
 
 -- what the program has, the bytes of a line that has not ended yet, and what was put out
@@ -55,9 +56,9 @@ pub record Count : Type 0 where
 abbrev pub count : ℕ → ℕ → Count
 count t p = record { taken = t; put = p }
 
-abbrev pub told_feeding : Feeding → Told Count
-told_feeding (feeding.Fed t p) = says (count t p)
-told_feeding (feeding.Refused c) = refusal c
+abbrev pub told_feeding : Result Fed Refusal → Told Count
+told_feeding (Ok f) = says (count f.taken f.put)
+told_feeding (Err why) = refusal (number why)
 
 -- what it says; the world after it, what is held of a line and how many bytes that is; and the list of what is put out
 pub record AfterFeed : Type 0 where
@@ -71,12 +72,12 @@ abbrev pub after_feed : Told Count → World → List ℕ → ℕ → List ℕ �
 after_feed c w h m o = record { told = c; world = w; held = h; size = m; out = o }
 
 -- a session's world, with the lists that it is lent
-abbrev pub world_of : Session → List ℕ → List ℕ → List ℕ → List ℕ → List ℕ → World
-world_of s l t ls ts scratch = world (site s.current l t) ls ts (length scratch)
+abbrev pub world_of : Session → Memory → World
+world_of s m = world (site s.current m.list.now m.table.now) m.locations.now m.terminals.now (length m.scratch.now)
 
--- what a call said and left: world, line and list of what is put out
-abbrev pub after_call : Fed → World → List ℕ → List ℕ → AfterFeed
-after_call f w line out = after_feed (told_feeding f.feeding) w (take f.session.held line) f.session.held out
+-- what a call said and left: the session, its world, the line and the list of what is put out
+abbrev pub after_call : Result Fed Refusal → Session → World → List ℕ → List ℕ → AfterFeed
+after_call r s w line out = after_feed (told_feeding r) w (take s.held line) s.held out
 
 -- A call of feed with a list `line`, of which the first m bytes are held. 12: more bytes are held than there can be. 4: `line` is
 -- shorter than what may be held, or `out` than the longest answer. Otherwise the piece is fed as long as there is room for the
@@ -96,6 +97,14 @@ end_call w line m out = cond (eqb m 0) (after_feed (says (count 0 0)) w [] 0 out
 
 -- Past what is held `line` is free after a call that is not refused, and so is the scratch; a refusal leaves both. They keep their
 -- lengths.
-abbrev pub BuffersAfter : Feeding → List ℕ → List ℕ → List ℕ → List ℕ → Type 0
-BuffersAfter (feeding.Fed t p) line line' scratch scratch' = (length line' ≡ length line) × (length scratch' ≡ length scratch)
-BuffersAfter (feeding.Refused c) line line' scratch scratch' = (line' ≡ line) × (scratch' ≡ scratch)
+abbrev pub BuffersAfter : Result Fed Refusal → List ℕ → List ℕ → List ℕ → List ℕ → Type 0
+BuffersAfter (Ok f) line line' scratch scratch' = (length line' ≡ length line) × (length scratch' ≡ length scratch)
+BuffersAfter (Err why) line line' scratch scratch' = (line' ≡ line) × (scratch' ≡ scratch)
+
+-- the same lists are lent, as long as they were
+abbrev pub SameLists : Memory → Memory → Type 0
+SameLists m m' =
+    (m'.list.ghost_name ≡ m.list.ghost_name) × (m'.table.ghost_name ≡ m.table.ghost_name) × (m'.locations.ghost_name ≡ m.locations.ghost_name)
+    × (m'.terminals.ghost_name ≡ m.terminals.ghost_name) × (m'.scratch.ghost_name ≡ m.scratch.ghost_name)
+    × (length m'.list.now ≡ length m.list.now) × (length m'.table.now ≡ length m.table.now) × (length m'.locations.now ≡ length m.locations.now)
+    × (length m'.terminals.now ≡ length m.terminals.now) × (length m'.scratch.now ≡ length m.scratch.now)

@@ -1,201 +1,126 @@
-// What a line's command does: the round's call for it, and its answer as a line or a plan.
+// What a line asks for is done by the round's call for it, and answered.
 ghost use Rattle.std.specs.Prelude.{◌≡◌, List, ℕ, length};
-ghost use Rattle.orders.specs.ReservoirCalls.{told_exchange};
-ghost use Rattle.choosers.specs.SlotCalls.{told_slot, told_outcome};
-ghost use Rattle.lines.specs.Replies.{joined, withdrawn};
-ghost use Rattle.lines.specs.Sessions.{site, world, replied, exchange_reply, open_line, admit_line, join_line, withdraw_line, answered};
-ghost use Rattle.lines.specs.InnerLines.{line_of, Printable};
-ghost use Rattle.lines.specs.InnerSessions.{said_by, refused_by, plan_by, planned, outcome_of, spoken_of, act_by};
+ghost use Rattle.lines.specs.Replies.{text_of};
+ghost use Rattle.lines.specs.Sessions.{site, said, world, response, open_line, admit_line, join_line, withdraw_line, plan_line, respond};
+ghost use Rattle.lines.specs.Streams.{room_for};
+ghost use Rattle.lines.specs.InnerLines.{reply_of, HasRoom, SameList, Puts};
 
+use crate::commands;
 use crate::commands::Command;
-use crate::sessions::Current;
-use crate::texts::{Answer, Output};
-use choosers::node_map::{Outcome, Slot};
-use orders::consistent_reservoir::Exchange;
+use crate::texts::{Answer, Text};
+use answers::Refusal;
 use rounds::round;
-use rounds::round::Opened;
+use rounds::round::Round;
 
-// ---- the answers of the round's calls, as lines
-
-fn exchange_line(e: Exchange) -> Answer
-    ensures { line_of result ≡ replied exchange_reply (told_exchange e) }
-{
-    match e {
-        Exchange::InOut(enters, leaves) => Answer::Admitted { enters, leaves },
-        Exchange::Nothing => Answer::Nothing,
-        Exchange::Refused(w) => Answer::Refused(w),
-    }
-}
-
-fn slot_line(s: Slot) -> Answer
-    ensures { line_of result ≡ replied joined (told_slot s) }
-{
-    match s {
-        Slot::Number(x) => Answer::Joined(x),
-        Slot::Refused(w) => Answer::Refused(w),
-    }
-}
-
-fn outcome_line(o: Outcome, slot: u32) -> Answer
-    ensures { line_of result ≡ replied (λ u. withdrawn slot) (told_outcome o) }
-{
-    match o {
-        Outcome::Done => Answer::Withdrawn(slot),
-        Outcome::Refused(w) => Answer::Refused(w),
-    }
-}
-
-// ---- calls
-
-// The round after a call, and its answer.
-#[derive(Drop)]
-pub struct Answered {
-    pub current: Current,
-    pub answer: Answer,
-}
-
-fn refused(current: Current, w: u32) -> Answered
-    ensures { result ≡ refused_by current w }
-{
-    Answered {
-        current,
-        answer: Answer::Refused(w),
-    }
-}
+// ---- the calls: refusal 12 before an accepted open, and those of the round's
 
 // The table is not lent to an open.
-fn opens(current: Current, key: u64, k: u32, n: u32, list: &mut [u32]) -> Answered
-    ensures { (t : List ℕ) → said_by result list.new t ≡ open_line key k n (site current list.old t) }
+fn open(
+    current: &mut Option<Round>,
+    key: u64,
+    k: u32,
+    n: u32,
+    list: &mut [u32],
+) -> Result<Answer, Refusal>
+    ensures { (t ls ts : List ℕ) → said (reply_of result ls ts) (site current.new list.new t) ≡ open_line key k n (site current.old list.old t) }
 {
-    match round::open(key, k, n, list) {
-        Opened::Made(r) => Answered {
-            current: Current::Open(r),
-            answer: Answer::Opened,
-        },
-        Opened::Refused(w) => refused(current, w),
-    }
+    let opened = round::open(key, k, n, list)?;
+    *current = Some(opened);
+    Ok(Answer::Opened)
 }
 
-fn admits(current: Current, list: &mut [u32], table: &[u8]) -> Answered
-    ensures { said_by result list.new table.now ≡ admit_line (site current list.old table.now) }
+fn admit(current: &mut Option<Round>, list: &mut [u32], table: &[u8]) -> Result<Answer, Refusal>
+    ensures { (ls ts : List ℕ) → said (reply_of result ls ts) (site current.new list.new table.now) ≡ admit_line (site current.old list.old table.now) }
 {
-    match current {
-        Current::Nothing => refused(current, 12),
-        Current::Open(r) => {
-            let a = round::admitted(r, list, table);
-            let after = a.round;
-            let exchange = a.exchange;
-            Answered {
-                current: Current::Open(after),
-                answer: exchange_line(exchange),
-            }
-        }
-    }
+    let Some(round) = current else {
+        return Err(Refusal::Misfit);
+    };
+    let exchange = round.admit(list, table)?;
+    Ok(Answer::Admitted(exchange))
 }
 
-fn joins(current: Current, list: &[u32], table: &mut [u8]) -> Answered
-    ensures { said_by result list.now table.new ≡ join_line (site current list.now table.old) }
+fn join(current: &mut Option<Round>, list: &[u32], table: &mut [u8]) -> Result<Answer, Refusal>
+    ensures { (ls ts : List ℕ) → said (reply_of result ls ts) (site current.new list.now table.new) ≡ join_line (site current.old list.now table.old) }
 {
-    match current {
-        Current::Nothing => refused(current, 12),
-        Current::Open(r) => {
-            let a = round::joined(r, list, table);
-            let after = a.round;
-            let slot = a.slot;
-            Answered {
-                current: Current::Open(after),
-                answer: slot_line(slot),
-            }
-        }
-    }
+    let Some(round) = current else {
+        return Err(Refusal::Misfit);
+    };
+    let slot = round.join(list, table)?;
+    Ok(Answer::Joined(slot))
 }
 
-fn withdraws(current: Current, list: &[u32], table: &mut [u8], slot: u32) -> Answered
-    ensures { said_by result list.now table.new ≡ withdraw_line slot (site current list.now table.old) }
+fn withdraw(
+    current: &mut Option<Round>,
+    list: &[u32],
+    table: &mut [u8],
+    slot: u32,
+) -> Result<Answer, Refusal>
+    ensures { (ls ts : List ℕ) → said (reply_of result ls ts) (site current.new list.now table.new) ≡ withdraw_line slot (site current.old list.now table.old) }
 {
-    match current {
-        Current::Nothing => refused(current, 12),
-        Current::Open(r) => {
-            let a = round::withdrawn(r, list, table, slot);
-            let after = a.round;
-            let outcome = a.outcome;
-            Answered {
-                current: Current::Open(after),
-                answer: outcome_line(outcome, slot),
-            }
-        }
-    }
+    let Some(round) = current else {
+        return Err(Refusal::Misfit);
+    };
+    round.withdraw(list, table, slot)?;
+    Ok(Answer::Withdrawn(slot))
 }
 
-fn plan_output(o: Outcome, k: u32) -> Output
-    ensures { result ≡ outcome_of o k }
-{
-    match o {
-        Outcome::Done => Output::Plan(k),
-        Outcome::Refused(w) => Output::Line(Answer::Refused(w)),
-    }
-}
-
-fn plans(
-    current: Current,
+fn plan(
+    current: Option<Round>,
     list: &[u32],
     table: &[u8],
     locations: &mut [u32],
     terminals: &mut [u32],
     scratch: &mut [u64],
-) -> Output
-    ensures answer { plan_by result (site current list.now table.now) locations.new terminals.new (length scratch.old) ≡ planned (site current list.now table.now) locations.old terminals.old (length scratch.old) }
-    ensures printable { Printable result locations.new terminals.new }
+) -> Result<Answer, Refusal>
+    ensures { response (reply_of result locations.new terminals.new) (world (site current list.now table.now) locations.new terminals.new (length scratch.old)) ≡ plan_line (world (site current list.now table.now) locations.old terminals.old (length scratch.old)) }
 {
-    match current {
-        Current::Nothing => Output::Line(Answer::Refused(12)),
-        Current::Open(r) => plan_output(
-            round::plan(r, list, table, locations, terminals, scratch),
-            r.k,
-        ),
-    }
+    let Some(round) = current else {
+        return Err(Refusal::Misfit);
+    };
+    round::plan(round, list, table, locations, terminals, scratch)?;
+    Ok(Answer::Planned(round.k))
 }
 
-// The round after a line, and what is put out for it.
-#[derive(Drop)]
-pub struct Acted {
-    pub current: Current,
-    pub output: Output,
-}
+// ---- lines
 
-fn spoken(a: Answered) -> Acted
-    ensures { result ≡ spoken_of a }
-{
-    let current = a.current;
-    let answer = a.answer;
-    Acted {
-        current,
-        output: Output::Line(answer),
-    }
-}
-
-// What a command does.
-pub(crate) fn act(
-    current: Current,
-    command: Command,
+// Does what a line asks for.
+fn act(
+    current: &mut Option<Round>,
+    line: &[u8],
     list: &mut [u32],
     table: &mut [u8],
     locations: &mut [u32],
     terminals: &mut [u32],
     scratch: &mut [u64],
-) -> Acted
-    ensures answer { act_by result list.new table.new locations.new terminals.new (length scratch.old) ≡ answered (world (site current list.old table.old) locations.old terminals.old (length scratch.old)) command }
-    ensures printable { Printable result.output locations.new terminals.new }
+) -> Result<Answer, Refusal>
+    ensures { response (reply_of result locations.new terminals.new) (world (site current.new list.new table.new) locations.new terminals.new (length scratch.old)) ≡ respond (world (site current.old list.old table.old) locations.old terminals.old (length scratch.old)) line.now }
 {
-    match command {
-        Command::Open { key, k, n } => spoken(opens(current, key, k, n, list)),
-        Command::Admit => spoken(admits(current, list, table)),
-        Command::Join => spoken(joins(current, list, table)),
-        Command::Withdraw(slot) => spoken(withdraws(current, list, table, slot)),
-        Command::Plan => Acted {
-            current,
-            output: plans(current, list, table, locations, terminals, scratch),
-        },
-        Command::Refused(w) => spoken(refused(current, w)),
+    match commands::parse(line)? {
+        Command::Open { key, k, n } => open(current, key, k, n, list),
+        Command::Admit => admit(current, list, table),
+        Command::Join => join(current, list, table),
+        Command::Withdraw(slot) => withdraw(current, list, table, slot),
+        Command::Plan => plan(*current, list, table, locations, terminals, scratch),
     }
+}
+
+// Answers a line: what is put out stands behind the text so far. The lists come one by one, since there is no rule yet for two
+// shared loans out of a struct that is lent itself.
+pub(crate) fn answer(
+    current: &mut Option<Round>,
+    line: &[u8],
+    list: &mut [u32],
+    table: &mut [u8],
+    locations: &mut [u32],
+    terminals: &mut [u32],
+    scratch: &mut [u64],
+    text: &mut Text,
+)
+    requires { HasRoom text.old (room_for locations.old) }
+    ensures lent { SameList text.old text.new }
+    ensures world_after { world (site current.new list.new table.new) locations.new terminals.new (length scratch.old) ≡ (respond (world (site current.old list.old table.old) locations.old terminals.old (length scratch.old)) line.now).world }
+    ensures says { Puts text.old (text_of (respond (world (site current.old list.old table.old) locations.old terminals.old (length scratch.old)) line.now).reply) text.new }
+{
+    let reply = act(current, line, list, table, locations, terminals, scratch);
+    text.push_reply(reply, locations, terminals);
 }

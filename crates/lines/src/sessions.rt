@@ -1,328 +1,206 @@
 // A session: bytes are fed in whatever pieces they come, and the answers to the lines that they end are put into a list.
-ghost use Rattle.std.specs.Prelude.{◌≡◌, [], ◌++◌, ◌≤◌, ◌<◌, ◌+◌, length, take};
-ghost use Rattle.lines.specs.Sessions.{site, world, respond};
-ghost use Rattle.lines.specs.Streams.{held_most, progress, room_for, world_of, after_call, feed_call, end_call, BuffersAfter};
-ghost use Rattle.lines.specs.InnerSessions.{Holds, Says, Stepped, Took};
+ghost use Rattle.std.specs.Prelude.{◌≡◌, ◌==◌, [], ◌++◌, ◌≤◌, ◌<◌, ◌+◌, length, take};
+ghost use Rattle.std.specs.List.{position};
+ghost use Rattle.lines.specs.Replies.{text_of};
+ghost use Rattle.lines.specs.Sessions.{respond};
+ghost use Rattle.lines.specs.Streams.{held_most, progress, room_for, world_of, after_call, feed_call, end_call, BuffersAfter, SameLists};
+ghost use Rattle.lines.specs.InnerLines.{HasRoom, SameList, Puts};
+ghost use Rattle.lines.specs.InnerSessions.{Holds, Stepped, Took};
 
-use crate::{calls, commands, texts};
+use crate::calls;
+use crate::texts::Text;
+use answers::Refusal;
 use rounds::round::Round;
 
-// The round that an accepted open made, if there was one.
-#[derive(Clone, Copy)]
-pub enum Current {
-    Nothing,
-    Open(Round),
+// What a round is kept in and a plan written to: lists that are lent, since there is no heap.
+#[derive(Drop)]
+pub struct Memory<'a> {
+    pub list: &'a mut [u32],
+    pub table: &'a mut [u8],
+    pub locations: &'a mut [u32],
+    pub terminals: &'a mut [u32],
+    pub scratch: &'a mut [u64],
 }
 
-// Where a session stands between two pieces: its round, and how many bytes are held of a line that has not ended.
-#[derive(Clone, Copy)]
+// Where a session stands between two pieces: the round that an accepted open made, if there was one, and how many bytes are held of
+// a line that has not ended. The list that holds them is lent to each call.
+#[derive(Clone, Copy, Debug, PartialEq, Eq)]
 pub struct Session {
-    pub current: Current,
+    pub current: Option<Round>,
     pub held: usize,
 }
 
-// How many bytes of a piece were taken, and how many were put out; or a refusal with its number.
-#[derive(Clone, Copy)]
-pub enum Feeding {
-    Fed { taken: usize, put: usize },
-    Refused(u32),
-}
-
-#[derive(Clone, Copy)]
+// How many bytes of a piece were taken, and how many were put out.
+#[derive(Clone, Copy, Debug, PartialEq, Eq)]
 pub struct Fed {
-    pub session: Session,
-    pub feeding: Feeding,
+    pub taken: usize,
+    pub put: usize,
 }
 
-// ---- lines
-
-// Holds bytes of a line behind those that are held, to 81 in all.
+// Holds bytes of a line behind those that are held, to 81 in all, and answers how many that is.
 fn keep(line: &mut [u8], held: usize, bytes: &[u8]) -> usize
     requires { (held ≤ held_most) × (held_most ≤ length line.old) }
     ensures upper_bound { result ≤ held_most }
     ensures holds { Holds result line.new (take held_most (take held line.old ++ bytes.now)) }
 {
-    let mut i = 0;
-    let mut next = held;
-    while i < bytes.len() {
-        if 81 <= next {
-            return next;
-        }
-        line[next] = bytes[i];
-        next += 1;
-        i += 1;
-    }
-    next
+    let count = bytes.len().min(81 - held);
+    let size = held + count;
+    line[held..size].copy_from_slice(&bytes[..count]);
+    size
 }
 
-// The round after a line, and the place after what was put out for it.
-#[derive(Clone, Copy)]
-pub struct Replied {
-    pub current: Current,
-    pub put: usize,
-}
-
-// Answers a line: what is put out stands from `at` on.
-fn answer(
-    bytes: &[u8],
-    current: Current,
-    list: &mut [u32],
-    table: &mut [u8],
-    locations: &mut [u32],
-    terminals: &mut [u32],
-    scratch: &mut [u64],
-    out: &mut [u8],
-    at: usize,
-) -> Replied
-    requires { at + room_for locations.old ≤ length out.old }
-    ensures world_after { world (site result.current list.new table.new) locations.new terminals.new (length scratch.old) ≡ (respond (world (site current list.old table.old) locations.old terminals.old (length scratch.old)) bytes.now).world }
-    ensures says { Says (respond (world (site current list.old table.old) locations.old terminals.old (length scratch.old)) bytes.now).reply out.old at out.new result.put }
+// Where the first line feed is.
+fn line_end(bytes: &[u8]) -> Option<usize>
+    ensures { result ≡ position (λ b. b == 10) bytes.now }
 {
-    let command = commands::parse(bytes);
-    let a = calls::act(current, command, list, table, locations, terminals, scratch);
-    let after = a.current;
-    let output = a.output;
-    let put = texts::put_output(out, at, output, locations, terminals);
-    Replied {
-        current: after,
-        put,
-    }
-}
-
-// Answers the line that bytes end, behind those that are held of it.
-fn end_line(
-    bytes: &[u8],
-    s: Session,
-    line: &mut [u8],
-    list: &mut [u32],
-    table: &mut [u8],
-    locations: &mut [u32],
-    terminals: &mut [u32],
-    scratch: &mut [u64],
-    out: &mut [u8],
-    at: usize,
-) -> Replied
-    requires { (s.held ≤ held_most) × (held_most ≤ length line.old) × (at + room_for locations.old ≤ length out.old) }
-    ensures world_after { world (site result.current list.new table.new) locations.new terminals.new (length scratch.old) ≡ (respond (world_of s list.old table.old locations.old terminals.old scratch.old) (take held_most (take s.held line.old ++ bytes.now))).world }
-    ensures says { Says (respond (world_of s list.old table.old locations.old terminals.old scratch.old) (take held_most (take s.held line.old ++ bytes.now))).reply out.old at out.new result.put }
-{
-    let held = s.held;
-    let current = s.current;
-    if held == 0 {
-        return answer(
-            bytes, current, list, table, locations, terminals, scratch, out, at,
-        );
-    }
-    let m = keep(line, held, bytes);
-    answer(
-        &line[..m],
-        current,
-        list,
-        table,
-        locations,
-        terminals,
-        scratch,
-        out,
-        at,
-    )
-}
-
-// The session after some bytes were taken, how many, and the place after what was put out.
-#[derive(Clone, Copy)]
-pub struct Taken {
-    pub session: Session,
-    pub taken: usize,
-    pub put: usize,
-}
-
-// Takes bytes up to and with their first line feed, or all where there is none.
-fn take_line(
-    bytes: &[u8],
-    s: Session,
-    line: &mut [u8],
-    list: &mut [u32],
-    table: &mut [u8],
-    locations: &mut [u32],
-    terminals: &mut [u32],
-    scratch: &mut [u64],
-    out: &mut [u8],
-    at: usize,
-) -> Taken
-    requires { (0 < length bytes.now) × (s.held ≤ held_most) × (held_most ≤ length line.old) × (at + room_for locations.old ≤ length out.old) }
-    ensures { Stepped bytes.now (world_of s list.old table.old locations.old terminals.old scratch.old) line.old out.old s.held at (world_of result.session list.new table.new locations.new terminals.new scratch.new) line.new out.new result.session.held result.taken result.put }
-{
-    let e = commands::place_of(bytes, 10);
-    if e < bytes.len() {
-        let taken = e + 1;
-        let r = end_line(
-            &bytes[..e],
-            s,
-            line,
-            list,
-            table,
-            locations,
-            terminals,
-            scratch,
-            out,
-            at,
-        );
-        let current = r.current;
-        return Taken {
-            session: Session { current, held: 0 },
-            taken,
-            put: r.put,
-        };
-    }
-    let current = s.current;
-    let held = keep(line, s.held, bytes);
-    Taken {
-        session: Session { current, held },
-        taken: bytes.len(),
-        put: at,
-    }
-}
-
-// ---- feeding
-
-// Takes line after line, as long as no more than `most` bytes are put out.
-fn take_lines(
-    piece: &[u8],
-    session: Session,
-    line: &mut [u8],
-    list: &mut [u32],
-    table: &mut [u8],
-    locations: &mut [u32],
-    terminals: &mut [u32],
-    scratch: &mut [u64],
-    out: &mut [u8],
-    most: usize,
-) -> Taken
-    requires { (session.held ≤ held_most) × (held_most ≤ length line.old) × (most + room_for locations.old ≤ length out.old) }
-    ensures { Took most (progress (world_of session list.old table.old locations.old terminals.old scratch.old) (take session.held line.old) []) piece.now out.old (world_of result.session list.new table.new locations.new terminals.new scratch.new) line.new out.new result.session.held result.taken result.put }
-{
-    let mut s = session;
-    let mut taken = 0;
-    let mut put = 0;
-    while taken < piece.len() {
-        if most < put {
-            return Taken {
-                session: s,
-                taken,
-                put,
-            };
-        }
-        let r = take_line(
-            &piece[taken..],
-            s,
-            line,
-            list,
-            table,
-            locations,
-            terminals,
-            scratch,
-            out,
-            put,
-        );
-        s = r.session;
-        taken += r.taken;
-        put = r.put;
-    }
-    Taken {
-        session: s,
-        taken,
-        put,
-    }
-}
-
-fn refuse(session: Session, w: u32) -> Fed
-    ensures { result ≡ record { session = session; feeding = Feeding.Refused w } }
-{
-    Fed {
-        session,
-        feeding: Feeding::Refused(w),
-    }
-}
-
-// Feeds a piece of the input, as long as there is room for the longest answer: refusals 12, 4. What is put out stands in the first
-// places of `out`; where less than the whole piece was taken, it is to be written out before the rest is fed.
-pub fn feed(
-    piece: &[u8],
-    session: Session,
-    line: &mut [u8],
-    list: &mut [u32],
-    table: &mut [u8],
-    locations: &mut [u32],
-    terminals: &mut [u32],
-    scratch: &mut [u64],
-    out: &mut [u8],
-) -> Fed
-    ensures answer { after_call result (world_of result.session list.new table.new locations.new terminals.new scratch.new) line.new out.new ≡ feed_call (world_of session list.old table.old locations.old terminals.old scratch.old) line.old session.held piece.now out.old }
-    ensures buffers_after { BuffersAfter result.feeding line.old line.new scratch.old scratch.new }
-{
-    let held = session.held;
-    if 81 < held {
-        return refuse(session, 12);
-    }
-    if line.len() < held {
-        return refuse(session, 12);
-    }
-    if line.len() < 81 {
-        return refuse(session, 4);
-    }
-    if out.len() < 32 {
-        return refuse(session, 4);
-    }
-    if (out.len() - 32) / 33 < locations.len() {
-        return refuse(session, 4);
-    }
-    let most = out.len() - 32 - locations.len() * 33;
-    let t = take_lines(
-        piece, session, line, list, table, locations, terminals, scratch, out, most,
-    );
-    let after = t.session;
-    Fed {
-        session: after,
-        feeding: Feeding::Fed {
-            taken: t.taken,
-            put: t.put,
-        },
-    }
-}
-
-// At the end of the input, answers a line that lacks its line feed.
-pub fn finish(
-    session: Session,
-    line: &mut [u8],
-    list: &mut [u32],
-    table: &mut [u8],
-    locations: &mut [u32],
-    terminals: &mut [u32],
-    scratch: &mut [u64],
-    out: &mut [u8],
-) -> Fed
-    ensures answer { after_call result (world_of result.session list.new table.new locations.new terminals.new scratch.new) line.new out.new ≡ end_call (world_of session list.old table.old locations.old terminals.old scratch.old) line.old session.held out.old }
-    ensures buffers_after { BuffersAfter result.feeding line.old line.new scratch.old scratch.new }
-{
-    let held = session.held;
-    if held == 0 {
-        return Fed {
-            session,
-            feeding: Feeding::Fed { taken: 0, put: 0 },
-        };
-    }
-    feed(
-        b"\n", session, line, list, table, locations, terminals, scratch, out,
-    )
+    bytes.iter().position(|byte| *byte == b'\n')
 }
 
 impl Session {
     // No round, and nothing held.
     pub fn new() -> Self
-        ensures { result ≡ record { current = Current.Nothing; held = 0 } }
+        ensures { result ≡ record { current = None; held = 0 } }
     {
         Self {
-            current: Current::Nothing,
+            current: None,
             held: 0,
         }
+    }
+
+    // ---- lines
+
+    // Answers a line: what is put out stands behind the text so far.
+    fn answer(&mut self, bytes: &[u8], memory: &mut Memory, text: &mut Text)
+        requires { HasRoom text.old (room_for memory.old.locations.now) }
+        ensures held { self.new.held ≡ self.old.held }
+        ensures memory_lent { SameLists memory.old memory.new }
+        ensures text_lent { SameList text.old text.new }
+        ensures world_after { world_of self.new memory.new ≡ (respond (world_of self.old memory.old) bytes.now).world }
+        ensures says { Puts text.old (text_of (respond (world_of self.old memory.old) bytes.now).reply) text.new }
+    {
+        calls::answer(
+            &mut self.current,
+            bytes,
+            memory.list,
+            memory.table,
+            memory.locations,
+            memory.terminals,
+            memory.scratch,
+            text,
+        );
+    }
+
+    // Answers the line that bytes end, behind those that are held of it.
+    fn end_line(&mut self, bytes: &[u8], line: &mut [u8], memory: &mut Memory, text: &mut Text)
+        requires { (self.old.held ≤ held_most) × (held_most ≤ length line.old) × HasRoom text.old (room_for memory.old.locations.now) }
+        ensures held { self.new.held ≡ 0 }
+        ensures memory_lent { SameLists memory.old memory.new }
+        ensures text_lent { SameList text.old text.new }
+        ensures world_after { world_of self.new memory.new ≡ (respond (world_of self.old memory.old) (take held_most (take self.old.held line.old ++ bytes.now))).world }
+        ensures says { Puts text.old (text_of (respond (world_of self.old memory.old) (take held_most (take self.old.held line.old ++ bytes.now))).reply) text.new }
+    {
+        if self.held == 0 {
+            self.answer(bytes, memory, text);
+            return;
+        }
+        let size = keep(line, self.held, bytes);
+        self.held = 0;
+        self.answer(&line[..size], memory, text);
+    }
+
+    // Takes bytes up to and with their first line feed, or all where there is none, and answers how many.
+    fn take_line(
+        &mut self,
+        bytes: &[u8],
+        line: &mut [u8],
+        memory: &mut Memory,
+        text: &mut Text,
+    ) -> usize
+        requires { (0 < length bytes.now) × (self.old.held ≤ held_most) × (held_most ≤ length line.old) × HasRoom text.old (room_for memory.old.locations.now) }
+        ensures memory_lent { SameLists memory.old memory.new }
+        ensures text_lent { SameList text.old text.new }
+        ensures steps { Stepped bytes.now (world_of self.old memory.old) line.old text.old.out.now self.old.held text.old.len (world_of self.new memory.new) line.new text.new.out.now self.new.held result text.new.len }
+    {
+        match line_end(bytes) {
+            Some(end) => {
+                self.end_line(&bytes[..end], line, memory, text);
+                end + 1
+            }
+            None => {
+                let held = keep(line, self.held, bytes);
+                self.held = held;
+                bytes.len()
+            }
+        }
+    }
+
+    // ---- feeding
+
+    // Takes line after line, as long as the text has no more than `most` bytes, and answers how many bytes.
+    fn take_lines(
+        &mut self,
+        piece: &[u8],
+        line: &mut [u8],
+        memory: &mut Memory,
+        text: &mut Text,
+        most: usize,
+    ) -> usize
+        requires held { (self.old.held ≤ held_most) × (held_most ≤ length line.old) }
+        requires room { most + room_for memory.old.locations.now ≤ length text.old.out.now }
+        requires empty { text.old.len ≡ 0 }
+        ensures memory_lent { SameLists memory.old memory.new }
+        ensures text_lent { SameList text.old text.new }
+        ensures took { Took most (progress (world_of self.old memory.old) (take self.old.held line.old) []) piece.now text.old.out.now (world_of self.new memory.new) line.new text.new.out.now self.new.held result text.new.len }
+    {
+        let mut taken = 0;
+        while taken < piece.len() && text.len <= most {
+            taken += self.take_line(&piece[taken..], line, memory, text);
+        }
+        taken
+    }
+
+    // Feeds a piece of the input, as long as there is room for the longest answer: refusals 12, 4. What is put out stands in the
+    // first places of `out`; where less than the whole piece was taken, it is to be written out before the rest is fed.
+    pub fn feed(
+        &mut self,
+        piece: &[u8],
+        line: &mut [u8],
+        memory: &mut Memory,
+        out: &mut [u8],
+    ) -> Result<Fed, Refusal>
+        ensures answer { after_call result self.new (world_of self.new memory.new) line.new out.new ≡ feed_call (world_of self.old memory.old) line.old self.old.held piece.now out.old }
+        ensures buffers_after { BuffersAfter result line.old line.new memory.old.scratch.now memory.new.scratch.now }
+        ensures lent { SameLists memory.old memory.new }
+    {
+        if self.held > 81 || line.len() < self.held {
+            return Err(Refusal::Misfit);
+        }
+        if line.len() < 81 || out.len() < 32 || (out.len() - 32) / 33 < memory.locations.len() {
+            return Err(Refusal::ShortMemory);
+        }
+        let most = out.len() - 32 - memory.locations.len() * 33;
+        let mut text = Text { out, len: 0 };
+        let taken = self.take_lines(piece, line, memory, &mut text, most);
+        Ok(Fed {
+            taken,
+            put: text.len,
+        })
+    }
+
+    // At the end of the input, answers a line that lacks its line feed.
+    pub fn finish(
+        &mut self,
+        line: &mut [u8],
+        memory: &mut Memory,
+        out: &mut [u8],
+    ) -> Result<Fed, Refusal>
+        ensures answer { after_call result self.new (world_of self.new memory.new) line.new out.new ≡ end_call (world_of self.old memory.old) line.old self.old.held out.old }
+        ensures buffers_after { BuffersAfter result line.old line.new memory.old.scratch.now memory.new.scratch.now }
+        ensures lent { SameLists memory.old memory.new }
+    {
+        if self.held == 0 {
+            return Ok(Fed { taken: 0, put: 0 });
+        }
+        self.feed(b"\n", line, memory, out)
     }
 }

@@ -1,187 +1,175 @@
-// The text of an answer, put into a list from a place on. Each function answers the place after what it put.
-ghost use Rattle.std.specs.Prelude.{◌≡◌, ◌++◌, ◌∷◌, [], ◌+◌, ◌*◌, ◌<◌, ◌≤◌, length, take};
+// The text of an answer, put behind what stands in a list so far.
+ghost use Rattle.std.specs.Prelude.{◌≡◌, ◌++◌, ◌∷◌, [], ◌+◌, ◌*◌, ◌≤◌, length, take};
 ghost use Rattle.std.proofs.Math.Option.{some};
 ghost use Rattle.rounds.specs.Plans.{sheet, sheets};
 ghost use Rattle.lines.specs.Replies.{decimal_of, tabbed, line_end, place_line, place_lines, text_of};
-ghost use Rattle.lines.specs.InnerLines.{Put, Printable, line_of, reply_of};
 
-// An answer of one line.
-#[derive(Drop)]
+use answers::Refusal;
+use orders::consistent_reservoir::Exchange;
+
+// What is answered to a line that is not refused; to a plan the first k places of its two lists.
+#[derive(Clone, Copy, Debug, PartialEq, Eq)]
 pub enum Answer {
     Opened,
-    Admitted { enters: u32, leaves: u32 },
-    Nothing,
+    Admitted(Option<Exchange>),
     Joined(u32),
     Withdrawn(u32),
-    Refused(u32),
-}
-
-// What is put out for a line: an answer, or the first k places of the plan's two lists.
-#[derive(Drop)]
-pub enum Output {
-    Line(Answer),
-    Plan(u32),
-}
-
-// ---- bytes and numbers
-
-fn put_byte(out: &mut [u8], at: usize, b: u8) -> usize
-    requires { at < length out.old }
-    ensures { Put out.old at (b ∷ []) out.new result }
-{
-    out[at] = b;
-    at + 1
-}
-
-fn put_bytes(out: &mut [u8], at: usize, text: &[u8]) -> usize
-    requires { at + length text.now ≤ length out.old }
-    ensures { Put out.old at text.now out.new result }
-{
-    let mut i = 0;
-    while i < text.len() {
-        out[at + i] = text[i];
-        i += 1;
-    }
-    at + i
+    Planned(u32),
 }
 
 // How many digits a number has.
 fn digits(n: u32) -> usize
-    ensures { result ≡ length (decimal_of n) }
+    ensures count { result ≡ length (decimal_of n) }
+    ensures few { result ≤ 10 }
 {
-    if n < 10 {
-        return 1;
-    }
-    if n < 100 {
-        return 2;
-    }
-    if n < 1_000 {
-        return 3;
-    }
-    if n < 10_000 {
-        return 4;
-    }
-    if n < 100_000 {
-        return 5;
-    }
-    if n < 1_000_000 {
-        return 6;
-    }
-    if n < 10_000_000 {
-        return 7;
-    }
-    if n < 100_000_000 {
-        return 8;
-    }
-    if n < 1_000_000_000 {
-        return 9;
-    }
-    10
+    n.max(1).ilog10() as usize + 1
 }
 
-// A number in decimal, without leading zeros: its digits from the last to the first.
-fn put_number(out: &mut [u8], at: usize, n: u32) -> usize
-    requires { at + 10 ≤ length out.old }
-    ensures { Put out.old at (decimal_of n) out.new result }
+// Writes a number in decimal, without leading zeros, over as many places as it has digits: from the last to the first.
+fn spell(places: &mut [u8], n: u32)
+    requires { length places.old ≡ length (decimal_of n) }
+    ensures { places.new ≡ decimal_of n }
 {
-    let end = at + digits(n);
-    let mut i = end;
     let mut left = n;
-    while 10 <= left {
-        i -= 1;
-        out[i] = (48 + left % 10) as u8;
+    for i in (0..places.len()).rev() {
+        places[i] = b'0' + (left % 10) as u8;
         left /= 10;
     }
-    i -= 1;
-    out[i] = (48 + left) as u8;
-    end
 }
 
-fn put_tabbed(out: &mut [u8], at: usize, n: u32) -> usize
-    requires { at + 11 ≤ length out.old }
-    ensures { Put out.old at (tabbed n) out.new result }
-{
-    let next = put_byte(out, at, 9);
-    put_number(out, next, n)
+// A text that grows in the first places of a list, which is lent, since there is no heap.
+#[derive(Drop)]
+pub struct Text<'a> {
+    pub out: &'a mut [u8],
+    pub len: usize,
+    pub ghost fits: { len ≤ length out.now },
 }
 
-// ---- answers
+impl Text<'_> {
+    ghost use Rattle.lines.specs.InnerLines.{HasRoom, SameList, Puts, admitted_reply, line_of, reply_of};
 
-// A word, a number and the line's end.
-fn put_one(out: &mut [u8], at: usize, word: &[u8], n: u32) -> usize
-    requires { at + length word.now + 12 ≤ length out.old }
-    ensures { Put out.old at (word.now ++ tabbed n ++ line_end) out.new result }
-{
-    let a = put_bytes(out, at, word);
-    let b = put_tabbed(out, a, n);
-    put_byte(out, b, 10)
-}
+    // ---- bytes and numbers
 
-fn put_admitted(out: &mut [u8], at: usize, enters: u32, leaves: u32) -> usize
-    requires { at + 32 ≤ length out.old }
-    ensures { Put out.old at (text_of (line_of (Answer.Admitted enters leaves))) out.new result }
-{
-    let a = put_bytes(out, at, b"admit");
-    let b = put_tabbed(out, a, enters);
-    let c = put_tabbed(out, b, leaves);
-    put_byte(out, c, 10)
-}
-
-fn put_answer(out: &mut [u8], at: usize, answer: Answer) -> usize
-    requires { at + 32 ≤ length out.old }
-    ensures { Put out.old at (text_of (line_of answer)) out.new result }
-{
-    match answer {
-        Answer::Opened => put_bytes(out, at, b"opened\n"),
-        Answer::Admitted { enters, leaves } => put_admitted(out, at, enters, leaves),
-        Answer::Nothing => put_bytes(out, at, b"none\n"),
-        Answer::Joined(s) => put_one(out, at, b"joined", s),
-        Answer::Withdrawn(s) => put_one(out, at, b"withdrawn", s),
-        Answer::Refused(c) => put_one(out, at, b"refused", c),
+    fn push(&mut self, byte: u8)
+        requires { HasRoom self.old 1 }
+        ensures lent { SameList self.old self.new }
+        ensures puts { Puts self.old (byte ∷ []) self.new }
+    {
+        self.out[self.len] = byte;
+        self.len += 1;
     }
-}
 
-// ---- plans
-
-// A line of a plan: place, location, slot.
-fn put_place(out: &mut [u8], at: usize, place: u32, location: u32, slot: u32) -> usize
-    requires { at + 33 ≤ length out.old }
-    ensures { Put out.old at (place_line place (sheet location (some slot))) out.new result }
-{
-    let a = put_number(out, at, place);
-    let b = put_tabbed(out, a, location);
-    let c = put_tabbed(out, b, slot);
-    put_byte(out, c, 10)
-}
-
-fn put_plan(out: &mut [u8], at: usize, locations: &[u32], terminals: &[u32], k: u32) -> usize
-    requires { (k ≤ length locations.now) × (k ≤ length terminals.now) × (at + 33 * k ≤ length out.old) }
-    ensures { Put out.old at (place_lines 0 (sheets (take k locations.now) (take k terminals.now))) out.new result }
-{
-    let mut next = at;
-    let mut i: u32 = 0;
-    while i < k {
-        let p = i as usize;
-        next = put_place(out, next, i, locations[p], terminals[p]);
-        i += 1;
+    fn push_bytes(&mut self, bytes: &[u8])
+        requires { HasRoom self.old (length bytes.now) }
+        ensures lent { SameList self.old self.new }
+        ensures puts { Puts self.old bytes.now self.new }
+    {
+        let end = self.len + bytes.len();
+        self.out[self.len..end].copy_from_slice(bytes);
+        self.len = end;
     }
-    next
-}
 
-// What is put out for a line.
-pub(crate) fn put_output(
-    out: &mut [u8],
-    at: usize,
-    output: Output,
-    locations: &[u32],
-    terminals: &[u32],
-) -> usize
-    requires room { at + 33 * length locations.now + 32 ≤ length out.old }
-    requires printable { Printable output locations.now terminals.now }
-    ensures { Put out.old at (text_of (reply_of output locations.now terminals.now)) out.new result }
-{
-    match output {
-        Output::Line(a) => put_answer(out, at, a),
-        Output::Plan(k) => put_plan(out, at, locations, terminals, k),
+    fn push_number(&mut self, n: u32)
+        requires { HasRoom self.old 10 }
+        ensures lent { SameList self.old self.new }
+        ensures puts { Puts self.old (decimal_of n) self.new }
+    {
+        let end = self.len + digits(n);
+        spell(&mut self.out[self.len..end], n);
+        self.len = end;
+    }
+
+    fn push_tabbed(&mut self, n: u32)
+        requires { HasRoom self.old 11 }
+        ensures lent { SameList self.old self.new }
+        ensures puts { Puts self.old (tabbed n) self.new }
+    {
+        self.push(b'\t');
+        self.push_number(n);
+    }
+
+    // ---- answers
+
+    // A word, a number and the line's end.
+    fn push_one(&mut self, word: &[u8], n: u32)
+        requires { HasRoom self.old (length word.now + 12) }
+        ensures lent { SameList self.old self.new }
+        ensures puts { Puts self.old (word.now ++ tabbed n ++ line_end) self.new }
+    {
+        self.push_bytes(word);
+        self.push_tabbed(n);
+        self.push(b'\n');
+    }
+
+    fn push_admitted(&mut self, exchange: Option<Exchange>)
+        requires { HasRoom self.old 32 }
+        ensures lent { SameList self.old self.new }
+        ensures puts { Puts self.old (text_of (admitted_reply exchange)) self.new }
+    {
+        let Some(Exchange { enters, leaves }) = exchange else {
+            self.push_bytes(b"none\n");
+            return;
+        };
+        self.push_bytes(b"admit");
+        self.push_tabbed(enters);
+        self.push_tabbed(leaves);
+        self.push(b'\n');
+    }
+
+    // ---- plans
+
+    // A line of a plan: place, location, slot.
+    fn push_place(&mut self, place: u32, location: u32, slot: u32)
+        requires { HasRoom self.old 33 }
+        ensures lent { SameList self.old self.new }
+        ensures puts { Puts self.old (place_line place (sheet location (some slot))) self.new }
+    {
+        self.push_number(place);
+        self.push_tabbed(location);
+        self.push_tabbed(slot);
+        self.push(b'\n');
+    }
+
+    fn push_plan(&mut self, locations: &[u32], terminals: &[u32], k: u32)
+        requires { HasRoom self.old (33 * length locations.now) }
+        ensures lent { SameList self.old self.new }
+        ensures puts { Puts self.old (place_lines 0 (sheets (take k locations.now) (take k terminals.now))) self.new }
+    {
+        for (place, (location, slot)) in (0..k).zip(locations.iter().zip(terminals)) {
+            self.push_place(place, *location, *slot);
+        }
+    }
+
+    // ---- replies
+
+    fn push_answer(&mut self, answer: Answer, locations: &[u32], terminals: &[u32])
+        requires { HasRoom self.old (33 * length locations.now + 32) }
+        ensures lent { SameList self.old self.new }
+        ensures puts { Puts self.old (text_of (line_of answer locations.now terminals.now)) self.new }
+    {
+        match answer {
+            Answer::Opened => self.push_bytes(b"opened\n"),
+            Answer::Admitted(exchange) => self.push_admitted(exchange),
+            Answer::Joined(slot) => self.push_one(b"joined", slot),
+            Answer::Withdrawn(slot) => self.push_one(b"withdrawn", slot),
+            Answer::Planned(k) => self.push_plan(locations, terminals, k),
+        }
+    }
+
+    // An answer, or a refusal by its number.
+    pub(crate) fn push_reply(
+        &mut self,
+        reply: Result<Answer, Refusal>,
+        locations: &[u32],
+        terminals: &[u32],
+    )
+        requires { HasRoom self.old (33 * length locations.now + 32) }
+        ensures lent { SameList self.old self.new }
+        ensures puts { Puts self.old (text_of (reply_of reply locations.now terminals.now)) self.new }
+    {
+        match reply {
+            Ok(answer) => self.push_answer(answer, locations, terminals),
+            Err(why) => self.push_one(b"refused", why.number()),
+        }
     }
 }

@@ -4,19 +4,12 @@
 
 ghost use Rattle.std.specs.Prelude.{◌≤◌, length, ◌≡◌, IfOk, OnOk};
 ghost use Rattle.std.specs.Io.KnownBytes.{ReadConsumes};
-ghost use Rattle.stocktake.specs.Pieces.{Within, PartOf, Written};
+ghost use Rattle.stocktake.specs.Pieces.{Within, taken_of, Written};
 
-use lines::sessions;
-use lines::sessions::{Feeding, Session};
+use answers::Refusal;
+use lines::sessions::{Fed, Memory, Session};
 use std::io;
 use std::io::{Read, Write};
-
-// A session, and whether it goes on.
-#[derive(Drop)]
-pub struct Going {
-    pub session: Session,
-    pub on: bool,
-}
 
 // Reads once, and answers how many bytes came: none at the end of the input.
 fn get<R: Read>(reader: &mut R, input: &mut [u8]) -> io::Result<usize>
@@ -26,107 +19,60 @@ fn get<R: Read>(reader: &mut R, input: &mut [u8]) -> io::Result<usize>
     reader.read(input)
 }
 
-// Writes out what a call put out, and answers how many bytes it had taken: none after a refusal.
-fn passed<W: Write>(feeding: Feeding, out: &[u8], writer: &mut W) -> io::Result<usize>
-    requires { Within feeding out.now }
-    ensures taken { IfOk result (λ n. PartOf n feeding) }
-    ensures written { OnOk result (Written feeding out.now (W.contents writer.old) (W.contents writer.new)) }
+// Writes out what a call put out, and answers how many bytes it had taken, unless it was refused.
+fn passed<W: Write>(told: Result<Fed, Refusal>, out: &[u8], writer: &mut W) -> io::Result<Option<usize>>
+    requires { Within told out.now }
+    ensures taken { IfOk result (λ o. o ≡ taken_of told) }
+    ensures written { OnOk result (Written told out.now (W.contents writer.old) (W.contents writer.new)) }
 {
-    match feeding {
-        Feeding::Fed { taken, put } => {
-            writer.write_all(&out[..put])?;
-            writer.flush()?;
-            Ok(taken)
-        }
-        Feeding::Refused(_) => Ok(0),
-    }
+    let Ok(Fed { taken, put }) = told else {
+        return Ok(None);
+    };
+    writer.write_all(&out[..put])?;
+    writer.flush()?;
+    Ok(Some(taken))
 }
 
-// Feeds a piece, and writes out the answers before it feeds on.
+// Feeds a piece, and writes out the answers before it feeds on. Whether it goes on: not after a refusal.
 fn fed<W: Write>(
-    writer: &mut W,
+    session: &mut Session,
     piece: &[u8],
-    from: Session,
     line: &mut [u8],
-    list: &mut [u32],
-    table: &mut [u8],
-    locations: &mut [u32],
-    terminals: &mut [u32],
-    scratch: &mut [u64],
+    memory: &mut Memory,
     out: &mut [u8],
-) -> io::Result<Going> {
-    let mut s = from;
-    let mut next = 0;
-    while next < piece.len() {
-        let f = sessions::feed(
-            &piece[next..],
-            s,
-            line,
-            list,
-            table,
-            locations,
-            terminals,
-            scratch,
-            out,
-        );
-        s = f.session;
-        let feeding = f.feeding;
-        let n = passed(feeding, out, writer)?;
-        if n == 0 {
-            return Ok(Going {
-                session: s,
-                on: false,
-            });
-        }
-        next += n;
+    writer: &mut W,
+) -> io::Result<bool> {
+    let mut rest = piece;
+    while !rest.is_empty() {
+        let told = session.feed(rest, line, memory, out);
+        let Some(taken) = passed(told, out, writer)? else {
+            return Ok(false);
+        };
+        rest = &rest[taken..];
     }
-    Ok(Going {
-        session: s,
-        on: true,
-    })
+    Ok(true)
 }
 
-// Nothing says that the input ends, so the loop counts its turns down from a number that no run uses up.
+// Nothing says that the input ends, so the loop has a number of turns that no run uses up.
 fn run<R: Read, W: Write>(
     reader: &mut R,
     writer: &mut W,
     input: &mut [u8],
     line: &mut [u8],
-    list: &mut [u32],
-    table: &mut [u8],
-    locations: &mut [u32],
-    terminals: &mut [u32],
-    scratch: &mut [u64],
+    memory: &mut Memory,
     out: &mut [u8],
 ) -> io::Result<()> {
-    let mut s = Session::new();
-    let mut turns = u64::MAX;
-    while turns > 0 {
-        let n = get(reader, input)?;
-        if n == 0 {
-            let f = sessions::finish(s, line, list, table, locations, terminals, scratch, out);
-            let feeding = f.feeding;
-            passed(feeding, out, writer)?;
+    let mut session = Session::new();
+    for _ in 0..u64::MAX {
+        let size = get(reader, input)?;
+        if size == 0 {
+            let told = session.finish(line, memory, out);
+            passed(told, out, writer)?;
             return Ok(());
         }
-        let g = fed(
-            writer,
-            &input[..n],
-            s,
-            line,
-            list,
-            table,
-            locations,
-            terminals,
-            scratch,
-            out,
-        )?;
-        let on = g.on;
-        if !on {
+        if !fed(&mut session, &input[..size], line, memory, out, writer)? {
             return Ok(());
         }
-        s = g.session;
-        turns -= 1;
     }
     Ok(())
 }
@@ -155,16 +101,19 @@ fn main(rt: HostRuntime) -> io::Result<()> {
     let mut line = [0u8; 81];
     let mut input = input_buffer();
     let mut out = answers_buffer();
+    let mut memory = Memory {
+        list: &mut list,
+        table: &mut table,
+        locations: &mut locations,
+        terminals: &mut terminals,
+        scratch: &mut scratch,
+    };
     run(
         &mut rt.stdin(),
         &mut rt.stdout(),
         &mut input,
         &mut line,
-        &mut list,
-        &mut table,
-        &mut locations,
-        &mut terminals,
-        &mut scratch,
+        &mut memory,
         &mut out,
     )
 }

@@ -1,28 +1,34 @@
 -- `stocktake::fed` meets its contract.
 -- Assumes nothing.
-use Rattle.std.proofs.Common.{◌+◌, ◌-◌, ◌≤◌, length, take, drop, arith, length-take}
-use Rattle.lines.specs.Streams.{world_of}
+use Rattle.std.proofs.Common.{◌≤◌, ◌<◌, ◌-◌, length, drop, length-take, length-drop, arith, sym, ◌∙◌}
+use borrow.Author.Tests.{eqb-false}
 use Rattle.stocktake.proofs.PieceLaws.{feed_puts, feed_takes}
 use Rattle.stocktake.proofs.fed.Given.{Over}
-use Rattle.stocktake.proofs.fed.Goals.{Else-n-eq0}
 use Rattle.stocktake.proofs.fed.Goals as goal
-
--- no more was taken than was left of the piece
-went : (g : Over) (c : Else-n-eq0 g) → c.loop-next.next + c.in_ok-n.n ≤ length c.args.piece.now
-went g c =
-    let l = c.loop-next in
-    let f = c.feed-f in
-    let w = world_of l.s l.list l.table l.locations l.terminals l.scratch in
-    let w' = world_of f.result.session f.new.list f.new.table f.new.locations f.new.terminals f.new.scratch in
-    let rest = take (length c.args.piece.now - l.next) (drop l.next c.args.piece.now) in
-    let taken : c.in_ok-n.n ≤ length rest = feed_takes w l.line l.s.held l.out rest f.result w' f.new.line f.new.out f.ensures.answer _ c.in_ok-n.ensures.taken in
-    omega (arith, taken, length-take (length c.args.piece.now - l.next) (drop l.next c.args.piece.now), c.loop-next-test.true)
+use Rattle.stocktake.proofs.fed.Goals.{In-Some}
 
 pub passed-requires : goal.passed-requires
-passed-requires g c = feed_puts _ c.loop-next.line _ c.loop-next.out _ c.feed-f.result _ _ _ c.feed-f.ensures.answer c.feed-f.auto.out
+passed-requires g c =
+    let f = c.feed-told in
+    feed_puts _ c.loop-rest.line _ c.loop-rest.out _ f.result f.new.self _ _ _ f.ensures.answer f.auto.out
 
-pub overflow_add-next : goal.overflow_add-next
-overflow_add-next g c = omega (arith, went g c, c.well_formed)
+-- something was taken, and no more than was left of the piece
+went : (g : Over) (c : In-Some g) → (0 < c.in-Some.taken) × (c.in-Some.taken ≤ length c.loop-rest.rest.now)
+went g c =
+    let l = c.loop-rest in
+    let f = c.feed-told in
+    let some : 0 < length l.rest.now = omega (arith, eqb-false (length l.rest.now) 0 (sym c.loop-rest-test.ensures)) in
+    feed_takes _ l.line _ l.out _ f.result f.new.self _ _ _ f.ensures.answer _ (sym c.in-Some.is ∙ c.in_ok-taken.ensures.taken) some
 
-pub loop-next-preserved : goal.loop-next-preserved
-loop-next-preserved g c = went g c
+pub slice_bounds-rest-count : goal.slice_bounds-rest-count
+slice_bounds-rest-count g c = omega (arith, went g c)
+
+pub slice_bounds-rest-start : goal.slice_bounds-rest-start
+slice_bounds-rest-start g c = (went g c).1
+
+pub loop-rest-smaller : goal.loop-rest-smaller
+loop-rest-smaller g c =
+    let w = went g (goal.at.loop-rest-smaller g c).In-Some in
+    let rest = c.loop-rest.rest.now in
+    let n = c.in-Some.taken in
+    omega (arith, w, length-take (length rest - n) (drop n rest), length-drop n rest)

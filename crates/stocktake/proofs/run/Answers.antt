@@ -4,4 +4,4 @@ use Rattle.stocktake.proofs.PieceLaws.{finish_puts}
 use Rattle.stocktake.proofs.run.Goals as goal
 
 pub passed-requires : goal.passed-requires
-passed-requires g c = finish_puts _ c.loop-turns.line _ c.loop-turns.out c.finish-f.result _ _ _ c.finish-f.ensures.answer c.finish-f.auto.out
+passed-requires g c = finish_puts _ c.loop.line _ c.loop.out c.finish-told.result c.finish-told.new.self _ _ _ c.finish-told.ensures.answer c.finish-told.auto.out

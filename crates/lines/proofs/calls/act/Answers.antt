@@ -1,37 +1,25 @@
 -- `lines::calls::act` meets its contract.
 -- Assumes nothing.
-use mathlib.Core.Path.{◌∙◌, refl}
-use Rattle.lines.proofs.ActLaws.{act_open, act_admit, act_join, act_withdraw, act_plan, act_refused}
+use Rattle.std.proofs.lemmas.Result.{err_from_is_err_and}
+use Rattle.lines.proofs.LineLaws.{respond_misfit, respond_open, respond_admit, respond_join, respond_withdraw, respond_plan}
 use Rattle.lines.proofs.calls.act.Goals as goal
 
+pub returns-in_err-key : goal.returns-in_err-key
+returns-in_err-key c =
+    let p = err_from_is_err_and c.from_residual.result c.from_residual.ensures.1 in
+    rw (p.1, p.2) (respond_misfit _ _ _ c.in_err-key.ensures)
+
 pub returns-in-Open : goal.returns-in-Open
-returns-in-Open c = let call = c.opens in
-    let both = act_open _ _ _ _ _ _ _ _ _ call.result c.spoken.result c.spoken.ensures _ _ _ c.in-Open.is (call.ensures _) in
-    record { answer = both.0; printable = both.1 }
+returns-in-Open c = respond_open _ _ _ c.in_ok-key.ensures _ _ _ _ _ c.in-Open.is (c.open.ensures _ _ _)
 
 pub returns-in-Admit : goal.returns-in-Admit
-returns-in-Admit c = let call = c.admits in
-    let both = act_admit _ _ _ _ _ _ _ _ _ call.result c.spoken-in-Admit.result c.spoken-in-Admit.ensures c.in-Admit.is call.ensures in
-    record { answer = both.0; printable = both.1 }
+returns-in-Admit c = respond_admit _ _ _ c.in_ok-key.ensures _ _ c.in-Admit.is (c.admit.ensures _ _)
 
 pub returns-in-Join : goal.returns-in-Join
-returns-in-Join c = let call = c.joins in
-    let both = act_join _ _ _ _ _ _ _ _ _ call.result c.spoken-in-Join.result c.spoken-in-Join.ensures c.in-Join.is call.ensures in
-    record { answer = both.0; printable = both.1 }
+returns-in-Join c = respond_join _ _ _ c.in_ok-key.ensures _ _ c.in-Join.is (c.join.ensures _ _)
 
 pub returns-in-Withdraw : goal.returns-in-Withdraw
-returns-in-Withdraw c = let call = c.withdraws in
-    let both = act_withdraw _ _ _ _ _ _ _ _ _ call.result c.spoken-in-Withdraw.result c.spoken-in-Withdraw.ensures _ c.in-Withdraw.is call.ensures in
-    record { answer = both.0; printable = both.1 }
+returns-in-Withdraw c = respond_withdraw _ _ _ c.in_ok-key.ensures _ _ _ c.in-Withdraw.is (c.withdraw.ensures _ _)
 
 pub returns-in-Plan : goal.returns-in-Plan
-returns-in-Plan c =
-    record {
-      answer = c.plans.ensures.answer ∙ act_plan _ _ c.in-Plan.is;
-      printable = c.plans.ensures.printable;
-    }
-
-pub returns-in-Refused : goal.returns-in-Refused
-returns-in-Refused c = let call = c.refused in
-    let both = act_refused _ _ _ _ _ _ _ _ _ call.result c.spoken-in-Refused.result c.spoken-in-Refused.ensures _ c.in-Refused.is refl refl call.ensures in
-    record { answer = both.0; printable = both.1 }
+returns-in-Plan c = respond_plan _ _ _ c.in_ok-key.ensures c.in-Plan.is _ c.plan.ensures

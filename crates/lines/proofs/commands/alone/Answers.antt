@@ -1,34 +1,58 @@
 -- `lines::commands::alone` meets its contract.
 -- Assumes nothing.
-use mathlib.Core.Path.{◌≡◌, sym, ◌∙◌}
-use mathlib.Core.Bool.{false}
-use Rattle.lines.specs.Lines.{alike}
-use Rattle.lines.specs.Commands.{admit_word, join_word, word_alone}
+use native.Mathlib.Omega.{arith}
+use Rattle.lines.proofs.CommandLaws.{alone_admit, alone_join, alone_plan, alone_else}
 use Rattle.lines.proofs.commands.alone.Goals as goal
-use Rattle.lines.proofs.commands.alone.Goals.{Else-same, Else-same-2}
 
--- it is not admit,
-not_admit : (c : Else-same) → alike c.args.w.now admit_word ≡ false
-not_admit c = sym c.same.ensures ∙ c.if-same.false
+pub returns-in-admit : goal.returns-in-admit
+returns-in-admit c = alone_admit _ (omega arith) (omega arith, (omega arith, (omega arith, (omega arith, (omega arith, tt)))))
 
--- nor join
-not_join : (c : Else-same-2) → alike c.args.w.now join_word ≡ false
-not_join c = sym c.same-2.ensures ∙ c.if-same-2.false
+pub returns-in-join : goal.returns-in-join
+returns-in-join c = alone_join _ (omega arith) (omega arith, (omega arith, (omega arith, (omega arith, tt))))
 
-pub returns-then-same : goal.returns-then-same
-unfolding word_alone
-returns-then-same c = rw (sym c.same.ensures ∙ c.if-same.true)
+pub returns-in-plan : goal.returns-in-plan
+returns-in-plan c = alone_plan _ (omega arith) (omega arith, (omega arith, (omega arith, (omega arith, tt))))
 
-pub returns-then-same-2 : goal.returns-then-same-2
-unfolding word_alone
-returns-then-same-2 c = rw (not_admit (goal.at.returns-then-same-2 c).Else-same, sym c.same-2.ensures ∙ c.if-same-2.true)
+-- a byte differs, or the length
 
-pub returns-then-same-3 : goal.returns-then-same-3
-unfolding word_alone
-returns-then-same-3 c =
-    rw (not_admit (goal.at.returns-then-same-3 c).Else-same, not_join (goal.at.returns-then-same-3 c).Else-same-2, sym c.same-3.ensures ∙ c.if-same-3.true)
+pub returns-in_default : goal.returns-in_default
+returns-in_default c = alone_else _ (λ n b. omega arith) (λ n b. omega arith) (λ n b. omega arith)
 
-pub returns : goal.returns
-unfolding word_alone
-returns c =
-    rw (not_admit (goal.at.returns c).Else-same, not_join (goal.at.returns c).Else-same-2, sym c.same-3.ensures ∙ c.if-same-3.false)
+pub returns-in_default-2 : goal.returns-in_default-2
+returns-in_default-2 c = alone_else _ (λ n b. omega arith) (λ n b. omega arith) (λ n b. omega arith)
+
+pub returns-in_default-3 : goal.returns-in_default-3
+returns-in_default-3 c = alone_else _ (λ n b. omega arith) (λ n b. omega arith) (λ n b. omega arith)
+
+pub returns-in_default-4 : goal.returns-in_default-4
+returns-in_default-4 c = alone_else _ (λ n b. omega arith) (λ n b. omega arith) (λ n b. omega arith)
+
+pub returns-in_default-5 : goal.returns-in_default-5
+returns-in_default-5 c = alone_else _ (λ n b. omega arith) (λ n b. omega arith) (λ n b. omega arith)
+
+pub returns-in_default-6 : goal.returns-in_default-6
+returns-in_default-6 c = alone_else _ (λ n b. omega arith) (λ n b. omega arith) (λ n b. omega arith)
+
+pub returns-in_default-7 : goal.returns-in_default-7
+returns-in_default-7 c = alone_else _ (λ n b. omega arith) (λ n b. omega arith) (λ n b. omega arith)
+
+pub returns-in_default-8 : goal.returns-in_default-8
+returns-in_default-8 c = alone_else _ (λ n b. omega arith) (λ n b. omega arith) (λ n b. omega arith)
+
+pub returns-in_default-9 : goal.returns-in_default-9
+returns-in_default-9 c = alone_else _ (λ n b. omega arith) (λ n b. omega arith) (λ n b. omega arith)
+
+pub returns-in_default-10 : goal.returns-in_default-10
+returns-in_default-10 c = alone_else _ (λ n b. omega arith) (λ n b. omega arith) (λ n b. omega arith)
+
+pub returns-in_default-11 : goal.returns-in_default-11
+returns-in_default-11 c = alone_else _ (λ n b. omega arith) (λ n b. omega arith) (λ n b. omega arith)
+
+pub returns-in_default-12 : goal.returns-in_default-12
+returns-in_default-12 c = alone_else _ (λ n b. omega arith) (λ n b. omega arith) (λ n b. omega arith)
+
+pub returns-in_default-13 : goal.returns-in_default-13
+returns-in_default-13 c = alone_else _ (λ n b. omega arith) (λ n b. omega arith) (λ n b. omega arith)
+
+pub returns-in_default-14 : goal.returns-in_default-14
+returns-in_default-14 c = alone_else _ (λ n b. omega arith) (λ n b. omega arith) (λ n b. omega arith)

@@ -4,10 +4,10 @@ use borrow.Author.Tests.{eq-eqb, ne_eqb}
 use Rattle.lines.specs.Commands.{key_of}
 use Rattle.lines.proofs.commands.key.Goals as goal
 
-pub returns-then-f-ne16 : goal.returns-then-f-ne16
+pub returns-then-field-ne16 : goal.returns-then-field-ne16
 unfolding key_of
-returns-then-f-ne16 c = rw (ne_eqb _ _ c.if-f-ne16.true)
+returns-then-field-ne16 c = rw (ne_eqb _ _ c.if-field-ne16.true)
 
 pub returns : goal.returns
 unfolding key_of
-returns c = rw (eq-eqb _ _ c.if-f-ne16.false) c.value.ensures
+returns c = rw (eq-eqb _ _ c.if-field-ne16.false) c.value.ensures
