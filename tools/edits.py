@@ -2,7 +2,7 @@
 
 An edit has lines `call: NAME` (whose answer it spoils; one or more), `wrong: WORDS` (how), and the change: `file: PATH`, then pairs
 `old: TEXT` and `new: TEXT`. The old text must stand there once; after a line `in: NAME` that is asked of the body of the function NAME
-alone. One edit is a file of crates/CRATE/must-fail, which the gate tries, and which knows no `in:`; many stand in
+alone, and after `in: TYPE::NAME` of that in the first `impl` of the type. One edit is a file of crates/CRATE/must-fail, which the gate tries, and which knows no `in:`; many stand in
 crates/CRATE/wrong.txt, parted by empty lines.
 """
 import os
@@ -51,7 +51,11 @@ def changed(text, inside, old, new):
     """The text after a replacement; None where the old text does not stand there once."""
     start, end = 0, len(text)
     if inside:
-        at = re.search(r'\bfn ' + re.escape(inside) + r'\b', text)
+        kind, _, name = inside.rpartition('::')
+        first = re.search(r'^impl ' + re.escape(kind) + r'\b', text, re.M) if kind else None
+        if kind and not first:
+            return None
+        at = re.compile(r'\bfn ' + re.escape(name) + r'\b').search(text, first.end() if first else 0)
         if not at:
             return None
         start, end = parted(text, at.start())[2:]

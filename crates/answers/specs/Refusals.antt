@@ -2,7 +2,7 @@
 -- Assumes nothing.
 use Rattle.std.specs.Prelude.{ℕ, Option, Some, None, Result, Ok, Err}
 use Rattle.std.proofs.Math.Option as maybe
-use Rattle.lists.specs.Told.{Told, refusal, says}
+use Rattle.lists.specs.Told.{Told, refusal, says, map_told}
 use Rattle.answers.specs.declared.Refusal.{Refusal}
 use Rattle.answers.specs.declared.Refusal.TheVariants.{NAboveLimit, KIsZero, KAboveN, ShortMemory, CannotShrink, AllChosen, NumbersWait, TopLayer, NoSlotLeft, SlotNotActive, NoneActive, Misfit}
 
@@ -38,8 +38,11 @@ abbrev pub told : {A : Type 0} → Result A Refusal → Told A
 told (Ok x) = says x
 told (Err why) = refusal (number why)
 
--- the same of a call that may find nothing
+-- what was found, or none
+abbrev pub optional : {A : Type 0} → Option A → maybe.Option A
+optional (Some x) = maybe.some x
+optional None = maybe.none
+
+-- what a call says that may find nothing
 abbrev pub told_option : {A : Type 0} → Result (Option A) Refusal → Told (maybe.Option A)
-told_option (Ok (Some x)) = says (maybe.some x)
-told_option (Ok None) = says maybe.none
-told_option (Err why) = refusal (number why)
+told_option r = map_told optional (told r)

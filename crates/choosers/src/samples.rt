@@ -5,7 +5,7 @@ ghost use Rattle.choosers.specs.Choosers.{g, largest_g, S, moved, larger, lower_
 ghost use Rattle.choosers.specs.ChooserCalls.{ascends};
 ghost use Rattle.choosers.specs.InnerChoosers.{grow_in, Within, OwnOr, Owns, SameFrom};
 
-use hashes::{ConsistentHasher, Found};
+use hashes::ConsistentHasher;
 
 // Whether the first k samples ascend strictly below n.
 pub(crate) fn rising(list: &[u64], k: usize, n: u64) -> bool
@@ -30,11 +30,8 @@ pub(crate) fn get_sample(state: u64, i: u64, n: u64) -> u64
     requires { (i < n) × (n ≤ 2 ^ 62) }
     ensures { result ≡ g state i n }
 {
-    match ConsistentHasher::new(hashes::seq_builder(state, i)).prev(n - i) {
-        Found::Hash(x) => i + x,
-        Found::Nothing => i,
-        Found::Refused(c) => i,
-    }
+    let hasher = ConsistentHasher::new(hashes::seq_builder(state, i));
+    i + hasher.prev(n - i).unwrap().unwrap()
 }
 
 // The larger of two numbers.

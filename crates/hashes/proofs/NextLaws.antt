@@ -3,7 +3,7 @@
 use mathlib.Core.Path.{◌≡◌, refl, sym, ap, ◌∙◌}
 use mathlib.Core.Bool.{true, false}
 use mathlib.Core.List.{List, append-nil}
-use mathlib.Core.Option.{Option, none, some, get_or}
+use mathlib.Core.Option.{Option, none, some}
 use Prim.Native.Nat.{ℕ, suc, ◌+◌, ◌^◌, ◌≤◌, ◌<◌, min}
 use native.Mathlib.Omega.{arith}
 use native.Mathlib.Decide.{le_ind}
@@ -61,21 +61,10 @@ up_skip s m k j t =
     (λ i p ih q. up_clear s m i (t.clear i p (omega arith)) ∙ ih (omega arith))
     j t.from (omega arith)
 
--- no hash of a bucket is 0, so 0 may stand for none
+-- what is found is there
 up_there : (s m k z : ℕ) → up_to s m k ≡ some z → 0 < occurrences z (buckets s k)
 unfolding up_to
 up_there s m k z e = keep_within (not_below m) z (buckets s k) (pick_extreme by_min (keep (not_below m) (buckets s k)) z e).there
-
-up_positive : (s m k z : ℕ) → up_to s m k ≡ some z → 0 < z
-up_positive s m k z e = (buckets_within s k z (up_there s m k z e)).0
-
-up_none : (s m k : ℕ) (o : Option ℕ) → up_to s m k ≡ o → get_or o 0 ≤ 0 → up_to s m k ≡ none
-up_none s m k none e h = e
-up_none s m k (some z) e h = absurd (omega (arith, up_positive s m k z e))
-
-some_get_d : (o : Option ℕ) → 0 < get_or o 0 → o ≡ some (get_or o 0)
-some_get_d none h = absurd (omega arith)
-some_get_d (some x) h = refl
 
 -- ---- all buckets
 
@@ -91,44 +80,21 @@ pub from_zero : (s : ℕ) → smallest_from s 0 ≡ some 0
 unfolding smallest_from hashes
 from_zero s = rw (not_below_yes 0 0 (omega arith)) (ap some (join_zero (smallest (keep (not_below 0) (buckets s 63)))))
 
--- every hash is below 2^63, so 2^63 may stand for none
-from_lt : (s m x : ℕ) → smallest_from s m ≡ some x → x < 2 ^ 63
+-- every hash is below 2^63
+pub from_lt : (s m x : ℕ) → smallest_from s m ≡ some x → x < 2 ^ 63
 from_lt s m x e =
     by_below 0 m
     (λ h. (buckets_within s 63 x (up_there s m 63 x (sym (from_buckets s m h) ∙ e))).1)
     (λ h. let z : m ≡ 0 = omega arith in let f = from_zero s in let q : x ≡ 0 = cc in omega arith)
 
-pub from_le : (s m : ℕ) → get_or (smallest_from s m) (2 ^ 63) ≤ 2 ^ 63
-from_le s m = go (smallest_from s m) refl
-  where
-    go : (o : Option ℕ) → smallest_from s m ≡ o → get_or o (2 ^ 63) ≤ 2 ^ 63
-    go none e = omega arith
-    go (some x) e = omega (arith, from_lt s m x e)
+-- ---- a turn of the search: bucket 2^j was opened
 
-pub from_none : (s m x : ℕ) → x ≡ get_or (smallest_from s m) (2 ^ 63) → x ≡ 2 ^ 63 → smallest_from s m ≡ none
-from_none s m x e h = go (smallest_from s m) refl (sym e ∙ h)
-  where
-    go : (o : Option ℕ) → smallest_from s m ≡ o → get_or o (2 ^ 63) ≡ 2 ^ 63 → smallest_from s m ≡ none
-    go none q r = q
-    go (some y) q r = absurd (omega (arith, from_lt s m y q))
-
-pub from_some : (s m x : ℕ) → x ≡ get_or (smallest_from s m) (2 ^ 63) → (x ≡ 2 ^ 63 → ⊥) → smallest_from s m ≡ some x
-from_some s m x e h = go (smallest_from s m) refl e
-  where
-    go : (o : Option ℕ) → smallest_from s m ≡ o → x ≡ get_or o (2 ^ 63) → smallest_from s m ≡ some x
-    go none q r = absurd (h r)
-    go (some y) q r = q ∙ ap some (sym r)
-
--- ---- a turn of the search: bucket 2^j was opened and gave x
-
-module _ (s m j x : ℕ) (before : up_to s m j ≡ none) (is_set : is_set s j ≡ true) (gives : x ≡ get_or (least_from m (numbers_of s j)) 0) where
+module _ (s m j : ℕ) (before : up_to s m j ≡ none) (is_set : is_set s j ≡ true) where
   after : up_to s m (suc j) ≡ least_from m (numbers_of s j)
   after = up_set s m j is_set ∙ rw before
 
-  pub turn_found : 0 < m → j < 63 → 0 < x → x ≡ get_or (smallest_from s m) (2 ^ 63)
-  turn_found p h q =
-      let found : up_to s m (suc j) ≡ some x = after ∙ some_get_d (least_from m (numbers_of s j)) (rw gives at q) ∙ ap some (sym gives) in
-      rw (from_buckets s m p, up_stays s m x (suc j) 63 h found)
+  pub turn_found : (x : ℕ) → 0 < m → j < 63 → some x ≡ least_from m (numbers_of s j) → some x ≡ smallest_from s m
+  turn_found x p h e = sym (from_buckets s m p ∙ up_stays s m x (suc j) 63 h (after ∙ sym e))
 
-  pub turn_missed : x ≤ 0 → up_to s m (j + 1) ≡ none
-  turn_missed h = rw (add-one j) (up_none s m (suc j) (least_from m (numbers_of s j)) after (rw gives at h))
+  pub turn_missed : none ≡ least_from m (numbers_of s j) → up_to s m (j + 1) ≡ none
+  turn_missed e = rw (add-one j) (after ∙ sym e)

@@ -1,18 +1,10 @@
 -- What the hasher's calls say.
 -- Assumes nothing.
 use Rattle.std.specs.Prelude.{cond, ℕ, ◌^◌, ltb}
-use Rattle.std.proofs.Math.Option.{Option, none, some, get_or}
+use Rattle.std.proofs.Math.Option.{Option, get_or}
 use Rattle.lists.specs.Told.{Told, refusal, says}
-use Rattle.hashes.specs.declared.Found.{Found}
-use Rattle.hashes.specs.declared.Found.TheVariants.{Hash, Nothing, Refused}
 use Rattle.hashes.specs.Hashes.{prev}
 use Rattle.hashes.specs.Next.{next}
-
--- 01's number, or the hash, or none
-abbrev pub told : Found → Told (Option ℕ)
-told (Hash x) = says (some x)
-told Nothing = says none
-told (Refused c) = refusal c
 
 -- 1: "n above .. 2^62 (hashes, choosers)"
 unfoldable pub limited : {A : Type 0} → ℕ → A → Told A

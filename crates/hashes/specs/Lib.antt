@@ -3,3 +3,4 @@ pub mod Next
 pub mod Calls
 pub mod InnerSearch
 pub mod Walks
+pub mod InnerBuckets

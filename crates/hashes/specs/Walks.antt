@@ -7,29 +7,15 @@ use Rattle.lists.specs.Steps.{Step}
 use Rattle.lists.specs.Lists.{keep, from, down}
 use Rattle.hashes.specs.declared.ConsistentHashRevIterator.{ConsistentHashRevIterator}
 use Rattle.hashes.specs.declared.ConsistentHashIterator.{ConsistentHashIterator}
-use Rattle.hashes.specs.declared.Falling.{Falling}
-use Rattle.hashes.specs.declared.Falling.TheVariants as falling
-use Rattle.hashes.specs.declared.Rising.{Rising}
-use Rattle.hashes.specs.declared.Rising.TheVariants as rising
-use Rattle.hashes.specs.declared.FallingStep.{FallingStep}
-use Rattle.hashes.specs.declared.RisingStep.{RisingStep}
 use Rattle.hashes.specs.Hashes.{is_hash, prev}
 use Rattle.hashes.specs.Next.{low, smallest_from}
-use Rattle.hashes.specs.Calls.{told, limited}
+use Rattle.hashes.specs.Calls.{limited}
 
 -- ---- falling
-
--- 01's number, or the walk
-abbrev pub told_falling : Falling → Told ConsistentHashRevIterator
-told_falling (falling.Made w) = says w
-told_falling (falling.Refused c) = refusal c
 
 -- the walk from n down
 abbrev pub falling_from : ℕ → ℕ → Told ConsistentHashRevIterator
 falling_from n s = limited n (record { state = s; n = n })
-
-abbrev pub falling_step : FallingStep → Step ConsistentHashRevIterator
-falling_step f = record { said = told f.found; walk = f.walk }
 
 -- after a hash the walk goes on below it; where there is none it stays
 abbrev pub go_on_below : ConsistentHashRevIterator → Option ℕ → Step ConsistentHashRevIterator
@@ -46,16 +32,9 @@ hashes_below s n = keep (is_hash s) (down n)
 
 -- ---- rising
 
-abbrev pub told_rising : Rising → Told ConsistentHashIterator
-told_rising (rising.Made w) = says w
-told_rising (rising.Refused c) = refusal c
-
 -- the walk from n up: it starts at `low n`
 abbrev pub rising_from : ℕ → ℕ → Told ConsistentHashIterator
 rising_from n s = limited n (record { state = s; low = low n })
-
-abbrev pub rising_step : RisingStep → Step ConsistentHashIterator
-rising_step r = record { said = told r.found; walk = r.walk }
 
 -- after a hash the walk goes on above it; where there is none it stays
 abbrev pub go_on_above : ConsistentHashIterator → Option ℕ → Step ConsistentHashIterator

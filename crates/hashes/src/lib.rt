@@ -6,18 +6,15 @@ mod buckets;
 mod search;
 
 ghost use Rattle.std.specs.Prelude.{◌≡◌, ◌^◌, ◌≤◌};
+ghost use Rattle.lists.specs.Told.{says};
+ghost use Rattle.lists.specs.Steps.{stepped_to};
+ghost use Rattle.answers.specs.Refusals.{told, optional, told_option};
 ghost use Rattle.hashes.specs.Hashes.{feed};
 ghost use Rattle.hashes.specs.Next.{low};
-ghost use Rattle.hashes.specs.Calls.{told, prev_call, next_call};
-ghost use Rattle.hashes.specs.Walks.{told_falling, falling_from, falling_step, fall, told_rising, rising_from, rising_step, rise};
+ghost use Rattle.hashes.specs.Calls.{prev_call, next_call};
+ghost use Rattle.hashes.specs.Walks.{falling_from, fall, rising_from, rise};
 
-// What a call that looks for a hash answers: the hash, that there is none, or a refusal with its number.
-#[derive(Clone, Copy)]
-pub enum Found {
-    Hash(u64),
-    Nothing,
-    Refused(u32),
-}
+use answers::Refusal;
 
 // The state of the i-th of many sequences.
 pub fn seq_builder(state: u64, i: u64) -> u64
@@ -27,7 +24,7 @@ pub fn seq_builder(state: u64, i: u64) -> u64
 }
 
 // The hashes of one state.
-#[derive(Clone, Copy)]
+#[derive(Clone, Copy, Debug, PartialEq, Eq)]
 pub struct ConsistentHasher {
     pub state: u64,
 }
@@ -43,37 +40,33 @@ impl ConsistentHasher {
     }
 
     // The largest hash below n; refusal 1 for an n above the limit.
-    pub fn prev(self, n: u64) -> Found
-        ensures { told result ≡ prev_call self.state n }
+    pub fn prev(self, n: u64) -> Result<Option<u64>, Refusal>
+        ensures { told_option result ≡ prev_call self.state n }
     {
         if Self::N_LIMIT < n {
-            return Found::Refused(1);
+            return Err(Refusal::NAboveLimit);
         }
         if n == 0 {
-            return Found::Nothing;
+            return Ok(None);
         }
-        Found::Hash(search::largest_below(self.state, n))
+        Ok(Some(search::largest_below(self.state, n)))
     }
 
     // The same. In the original it uses the hasher up.
-    pub fn into_prev(self, n: u64) -> Found
-        ensures { told result ≡ prev_call self.state n }
+    pub fn into_prev(self, n: u64) -> Result<Option<u64>, Refusal>
+        ensures { told_option result ≡ prev_call self.state n }
     {
         self.prev(n)
     }
 
     // The first hash of the rising walk from n; refusal 1 for an n above the limit.
-    pub fn next(self, n: u64) -> Found
-        ensures { told result ≡ next_call self.state n }
+    pub fn next(self, n: u64) -> Result<Option<u64>, Refusal>
+        ensures { told_option result ≡ next_call self.state n }
     {
         if Self::N_LIMIT < n {
-            return Found::Refused(1);
+            return Err(Refusal::NAboveLimit);
         }
-        let x = search::smallest_from(self.state, low_of(n));
-        if x == search::HASH_BOUND {
-            return Found::Nothing;
-        }
-        Found::Hash(x)
+        Ok(search::smallest_from(self.state, low_of(n)))
     }
 }
 
@@ -93,24 +86,10 @@ fn low_of(n: u64) -> u64
 }
 
 // The falling walk: every hash below n, one a call, the largest first. Afterwards n is the hash that was given.
-#[derive(Clone, Copy)]
+#[derive(Clone, Copy, Debug, PartialEq, Eq)]
 pub struct ConsistentHashRevIterator {
     pub state: u64,
     pub n: u64,
-}
-
-// A falling walk, or a refusal with its number.
-#[derive(Clone, Copy)]
-pub enum Falling {
-    Made(ConsistentHashRevIterator),
-    Refused(u32),
-}
-
-// A step of the falling walk: the walk after it, and what it found.
-#[derive(Clone, Copy)]
-pub struct FallingStep {
-    pub walk: ConsistentHashRevIterator,
-    pub found: Found,
 }
 
 impl ConsistentHashRevIterator {
@@ -118,61 +97,36 @@ impl ConsistentHashRevIterator {
     pub const N_LIMIT: u64 = ConsistentHasher::N_LIMIT;
 
     // The walk from n down; refusal 1 for an n above the limit.
-    pub fn new(n: u64, state: u64) -> Falling
-        ensures { told_falling result ≡ falling_from n state }
+    pub fn new(n: u64, state: u64) -> Result<ConsistentHashRevIterator, Refusal>
+        ensures { told result ≡ falling_from n state }
     {
         if Self::N_LIMIT < n {
-            return Falling::Refused(1);
+            return Err(Refusal::NAboveLimit);
         }
-        Falling::Made(ConsistentHashRevIterator { state, n })
+        Ok(ConsistentHashRevIterator { state, n })
     }
 
-    // The next hash and the walk after it; refusal 1 for a walk whose n is above the limit.
-    pub fn next(self) -> FallingStep
-        ensures { falling_step result ≡ fall self }
+    // The next hash; refusal 1 for a walk whose n is above the limit.
+    pub fn next(&mut self) -> Result<Option<u64>, Refusal>
+        ensures { stepped_to (told_option result) self.new ≡ fall self.old }
     {
-        let state = self.state;
-        let n = self.n;
-        if Self::N_LIMIT < n {
-            return FallingStep {
-                walk: self,
-                found: Found::Refused(1),
-            };
+        if Self::N_LIMIT < self.n {
+            return Err(Refusal::NAboveLimit);
         }
-        if n == 0 {
-            return FallingStep {
-                walk: self,
-                found: Found::Nothing,
-            };
+        if self.n == 0 {
+            return Ok(None);
         }
-        let x = search::largest_below(state, n);
-        FallingStep {
-            walk: ConsistentHashRevIterator { state, n: x },
-            found: Found::Hash(x),
-        }
+        self.n = search::largest_below(self.state, self.n);
+        Ok(Some(self.n))
     }
 }
 
 // The rising walk: every hash of `low` or more, one a call, the smallest first. Afterwards `low` is one above the hash that
 // was given.
-#[derive(Clone, Copy)]
+#[derive(Clone, Copy, Debug, PartialEq, Eq)]
 pub struct ConsistentHashIterator {
     pub state: u64,
     pub low: u64,
-}
-
-// A rising walk, or a refusal with its number.
-#[derive(Clone, Copy)]
-pub enum Rising {
-    Made(ConsistentHashIterator),
-    Refused(u32),
-}
-
-// A step of the rising walk: the walk after it, and what it found.
-#[derive(Clone, Copy)]
-pub struct RisingStep {
-    pub walk: ConsistentHashIterator,
-    pub found: Found,
 }
 
 impl ConsistentHashIterator {
@@ -180,33 +134,22 @@ impl ConsistentHashIterator {
     pub const N_LIMIT: u64 = ConsistentHasher::N_LIMIT;
 
     // The walk from n up; refusal 1 for an n above the limit.
-    pub fn new(n: u64, state: u64) -> Rising
-        ensures { told_rising result ≡ rising_from n state }
+    pub fn new(n: u64, state: u64) -> Result<ConsistentHashIterator, Refusal>
+        ensures { told result ≡ rising_from n state }
     {
         if Self::N_LIMIT < n {
-            return Rising::Refused(1);
+            return Err(Refusal::NAboveLimit);
         }
-        Rising::Made(ConsistentHashIterator {
-            state,
-            low: low_of(n),
-        })
+        let low = low_of(n);
+        Ok(ConsistentHashIterator { state, low })
     }
 
-    // The next hash and the walk after it.
-    pub fn next(self) -> RisingStep
-        ensures { rising_step result ≡ rise self }
+    // The next hash.
+    pub fn next(&mut self) -> Option<u64>
+        ensures { stepped_to (says (optional result)) self.new ≡ rise self.old }
     {
-        let state = self.state;
-        let x = search::smallest_from(state, self.low);
-        if x == search::HASH_BOUND {
-            return RisingStep {
-                walk: self,
-                found: Found::Nothing,
-            };
-        }
-        RisingStep {
-            walk: ConsistentHashIterator { state, low: x + 1 },
-            found: Found::Hash(x),
-        }
+        let x = search::smallest_from(self.state, self.low)?;
+        self.low = x + 1;
+        Some(x)
     }
 }

@@ -1,14 +1,13 @@
 // The hash next below a number, and the one next from a number up.
 ghost use Rattle.std.specs.Prelude.{◌≡◌, ◌%◌, ◌^◌, ◌<◌, ◌≤◌};
-ghost use Rattle.std.proofs.Math.Option.{get_or};
+ghost use Rattle.answers.specs.Refusals.{optional};
 ghost use Rattle.hashes.specs.Next.{smallest_from};
 ghost use Rattle.hashes.specs.Calls.{prev_number};
 ghost use Rattle.hashes.specs.InnerSearch.{buckets_below, under, NextSet};
+ghost use Rattle.hashes.specs.InnerBuckets.{place_of};
 
-use crate::{bits, buckets};
-
-// 2^63. Every hash is smaller, so that it stands for none where a hash is looked for upwards.
-pub(crate) const HASH_BOUND: u64 = 0x8000_0000_0000_0000;
+use crate::bits;
+use crate::buckets::Bucket;
 
 // Of the bits of the state, those of buckets below n.
 fn bits_below(state: u64, n: u64) -> u64
@@ -28,8 +27,8 @@ fn highest_under(state: u64, k: u32, n: u64) -> u64
     if rest == 0 {
         return 0;
     }
-    let j = bits::highest(rest);
-    buckets::first_number(buckets::opened(state, j), j)
+    let bucket = Bucket::new(bits::highest(rest));
+    bucket.first_number(bucket.opened(state))
 }
 
 // The largest hash below n; 0 for n = 0. Only the highest bucket below n can hold no hash below n, since each lower one
@@ -46,39 +45,45 @@ pub(crate) fn largest_below(state: u64, n: u64) -> u64
         return 0;
     }
     let j = bits::highest(rest);
-    let d = buckets::opened(state, j);
-    let x = buckets::first_number(d, j);
+    let bucket = Bucket::new(j);
+    let d = bucket.opened(state);
+    let x = bucket.first_number(d);
     if x < n {
         return x;
     }
     // Worked out before the draws that may make it needless: the processor does both at once.
     let low = highest_under(state, j, n);
-    buckets::later_below(d, j, n, low)
+    bucket.later_below(d, n, low)
 }
 
-// The place of the lowest bucket from 2^k up that is set; 63 where none is, since bit 63 stands for no bucket.
-fn next_set(state: u64, k: u32) -> u32
+// The lowest bucket from 2^k up that is set, if any.
+fn next_set(state: u64, k: u32) -> Option<Bucket>
     requires { k ≤ 63 }
-    ensures { NextSet state k result }
+    ensures { NextSet state k (place_of result) }
 {
-    k + bits::lowest((state % 0x8000_0000_0000_0000 + 0x8000_0000_0000_0000) >> k)
+    // Bit 63 is set to end with.
+    let place = k + bits::lowest((state % 0x8000_0000_0000_0000 + 0x8000_0000_0000_0000) >> k);
+    if place < 63 {
+        Some(Bucket::new(place))
+    } else {
+        None
+    }
 }
 
-// The smallest hash of m or more. Of the buckets that are opened only the first can hold none, since each higher one lies
-// above m whole.
-pub(crate) fn smallest_from(state: u64, m: u64) -> u64
-    ensures { result ≡ get_or (smallest_from state m) (2 ^ 63) }
+// The smallest hash of m or more, if any. Of the buckets that are opened only the first can hold none, since each higher one
+// lies above m whole.
+pub(crate) fn smallest_from(state: u64, m: u64) -> Option<u64>
+    ensures { optional result ≡ smallest_from state m }
 {
     if m == 0 {
-        return 0;
+        return Some(0);
     }
-    let mut j = next_set(state, bits::highest(m));
-    while j < 63 {
-        let x = buckets::least_in(state, j, m);
-        if 0 < x {
-            return x;
+    let mut next = next_set(state, bits::highest(m));
+    while let Some(bucket) = next {
+        if let Some(x) = bucket.least_in(state, m) {
+            return Some(x);
         }
-        j = next_set(state, j + 1);
+        next = next_set(state, bucket.next_place());
     }
-    HASH_BOUND
+    None
 }

@@ -3,12 +3,12 @@
 use Rattle.std.proofs.Common.{◌≡◌, ℕ, zero, suc, ◌+◌, ◌-◌, ◌*◌, ◌/◌, ◌%◌, ◌^◌, ◌<◌, ◌≤◌, refl, not-suc-le-zero, mod-lt, arith, pow_pos}
 use lib.Arith.{digits_lt}
 use lib.Pow.{mod-mod-pow}
-use lib.Bits.{bit_xor, xor_lt, or_lt, and_mask}
+use lib.Bits.{bit_and, bit_xor, xor_lt, or_lt, and_mask}
 use Rattle.lists.proofs.Numbers.{four_pow, mul_lt_pow}
 use Rattle.layers.specs.declared.feistel.Halves.{Halves}
 use Rattle.layers.specs.Layer.{start, round_function, round, rounds, over}
 use Rattle.layers.specs.KeyedLayers.{k_xor, k_mul, new_right}
-use Rattle.layers.specs.InnerRounds.{Within, turn}
+use Rattle.layers.specs.InnerRounds.{Within}
 
 pub rounds_step : (h n : ℕ) (s : Halves) → 0 < n → rounds h n s ≡ rounds h (n - 1) (round h s)
 unfolding rounds
@@ -22,9 +22,8 @@ low_low s h p =
     rw e at (mod-mod-pow s (32 - h) h)
 
 -- a mask is the remainder
-pub turn_new : (h mask l r x w : ℕ) → h ≤ 32 → mask ≡ 2 ^ h - 1 → turn mask l r x w ≡ new_right h l r x w
-unfolding turn new_right
-turn_new h mask l r x w p e = rw (e, and_mask ((bit_xor r x * w % 2 ^ 32 + bit_xor r x * w / 2 ^ 32) % 2 ^ 32) h, low_low (bit_xor r x * w % 2 ^ 32 + bit_xor r x * w / 2 ^ 32) h p)
+pub masked : (h mask s : ℕ) → h ≤ 32 → mask ≡ 2 ^ h - 1 → bit_and (s % 2 ^ 32) mask ≡ s % 2 ^ h
+masked h mask s p e = rw (e, and_mask (s % 2 ^ 32) h, low_low s h p)
 
 -- the new right half, by the key
 pub new_round : (h l r K : ℕ) → new_right h l r (k_xor K) (k_mul K) ≡ bit_xor l (round_function h r K)
@@ -62,7 +61,3 @@ rounds_within h (suc n) s w = rounds_within h n (round h s) (round_within h s w)
 pub over_lt : (h : ℕ) (s : Halves) → Within h s → over h s < 4 ^ h
 unfolding over
 over_lt h s w = rw four_pow (digits_lt w.left w.right)
-
--- the new right half, as the code works it out
-pub turn_lt : (h mask l r x w y : ℕ) → h ≤ 32 → mask ≡ 2 ^ h - 1 → y ≡ turn mask l r x w → l < 2 ^ h → y < 2 ^ h
-turn_lt h mask l r x w y p e q b = rw (q, turn_new h mask l r x w p e) (new_lt h l r x w b)

@@ -2,14 +2,7 @@
 -- Assumes nothing.
 use Rattle.std.specs.Prelude.{ℕ, cond, nat_le, nat_lt}
 use Rattle.lists.specs.Told.{Told, refusal, says}
-use Rattle.layers.specs.declared.Applied.{Applied}
-use Rattle.layers.specs.declared.Applied.TheVariants.{Output, Refused}
 use Rattle.layers.specs.Layer.{size, layer}
-
--- 01's number, or the output
-abbrev pub told : Applied → Told ℕ
-told (Output y) = says y
-told (Refused c) = refusal c
 
 -- 12: "a layer above 14, or a layer's input not below its size"
 unfoldable pub layer_apply : ℕ → ℕ → ℕ → Told ℕ

@@ -2,9 +2,8 @@
 -- Assumes nothing.
 use Rattle.std.specs.Prelude.{ℕ, ◌+◌, ◌-◌, ◌*◌, ◌/◌, ◌%◌, ◌^◌, cond, bit_or, bit_xor, nat_le}
 use Rattle.lists.specs.Told.{Told, refusal, says}
+use Rattle.layers.specs.declared.RoundKey.{RoundKey}
 use Rattle.layers.specs.declared.KeyedLayer.{KeyedLayer}
-use Rattle.layers.specs.declared.Keyed.{Keyed}
-use Rattle.layers.specs.declared.Keyed.TheVariants.{Made, Refused}
 use Rattle.layers.specs.Layer.{size, round_count, start, next_key, rounds, over}
 
 -- What a round takes of its K: what r is xored with, and w.
@@ -13,6 +12,9 @@ k_xor K = K % 2 ^ 32
 
 abbrev pub k_mul : ℕ → ℕ
 k_mul K = bit_or (K / 2 ^ 32) 1
+
+abbrev pub round_key : ℕ → RoundKey
+round_key K = record { xor = k_xor K; mul = k_mul K }
 
 -- Layer j: for each of the first four rounds what its K gives, then the K after them, and how many rounds are more than
 -- four (no layer has fewer).
@@ -26,21 +28,12 @@ keyed_layer j key =
       half = h;
       size = size j;
       more = round_count j - 4;
-      xor0 = k_xor key;
-      mul0 = k_mul key;
-      xor1 = k_xor k1;
-      mul1 = k_mul k1;
-      xor2 = k_xor k2;
-      mul2 = k_mul k2;
-      xor3 = k_xor k3;
-      mul3 = k_mul k3;
+      first = round_key key;
+      second = round_key k1;
+      third = round_key k2;
+      fourth = round_key k3;
       key = next_key h k3;
     }
-
--- 01's number, or the record
-abbrev pub told_keyed : Keyed → Told KeyedLayer
-told_keyed (Made f) = says f
-told_keyed (Refused c) = refusal c
 
 -- 12: "a layer above 14"
 unfoldable pub keyed : ℕ → ℕ → Told KeyedLayer
@@ -58,8 +51,8 @@ unfoldable pub applied : KeyedLayer → ℕ → ℕ
 applied f x =
     let h = f.half % 16 in
     let s = start h f.key x in
-    let a = new_right h s.l s.r f.xor0 f.mul0 in
-    let b = new_right h s.r a f.xor1 f.mul1 in
-    let c = new_right h a b f.xor2 f.mul2 in
-    let d = new_right h b c f.xor3 f.mul3 in
+    let a = new_right h s.l s.r f.first.xor f.first.mul in
+    let b = new_right h s.r a f.second.xor f.second.mul in
+    let c = new_right h a b f.third.xor f.third.mul in
+    let d = new_right h b c f.fourth.xor f.fourth.mul in
     over h (rounds h f.more (record { l = c; r = d; key = f.key }))

@@ -5,41 +5,43 @@ mod feistel;
 mod rows;
 
 ghost use Rattle.std.specs.Prelude.{◌≡◌, ◌<◌};
-ghost use Rattle.layers.specs.Calls.{told, layer_apply};
-ghost use Rattle.layers.specs.KeyedLayers.{told_keyed, keyed_layer, keyed, applied};
+ghost use Rattle.answers.specs.Refusals.{told};
+ghost use Rattle.layers.specs.Calls.{layer_apply};
+ghost use Rattle.layers.specs.KeyedLayers.{round_key, keyed_layer, keyed, applied};
 
-use feistel::Halves;
+use answers::Refusal;
+use feistel::{HalfBits, Halves};
 
-// What a layer answers: the output, or a refusal with its number.
-#[derive(Clone, Copy)]
-pub enum Applied {
-    Output(u32),
-    Refused(u32),
+// What a round takes of its key: what r is xored with, and what that is multiplied by.
+#[derive(Clone, Copy, Debug, PartialEq, Eq)]
+pub struct RoundKey {
+    pub xor: u32,
+    pub mul: u32,
+}
+
+impl From<u64> for RoundKey {
+    ghost from_gives = { λ key k. k ≡ round_key key };
+
+    fn from(key: u64) -> RoundKey {
+        RoundKey {
+            xor: (key % 0x1_0000_0000) as u32,
+            mul: ((key / 0x1_0000_0000) as u32) | 1,
+        }
+    }
 }
 
 // A layer under a key, made once and applied many times: the bits of a half, the size, how many rounds are more than
 // four, what each of the first four rounds takes of its key, and the key after them.
-#[derive(Clone, Copy)]
+#[derive(Clone, Copy, Debug, PartialEq, Eq)]
 pub struct KeyedLayer {
     pub half: u32,
     pub size: u32,
     pub more: u32,
-    pub xor0: u32,
-    pub mul0: u32,
-    pub xor1: u32,
-    pub mul1: u32,
-    pub xor2: u32,
-    pub mul2: u32,
-    pub xor3: u32,
-    pub mul3: u32,
+    pub first: RoundKey,
+    pub second: RoundKey,
+    pub third: RoundKey,
+    pub fourth: RoundKey,
     pub key: u64,
-}
-
-// A keyed layer, or a refusal with its number.
-#[derive(Clone, Copy)]
-pub enum Keyed {
-    Made(KeyedLayer),
-    Refused(u32),
 }
 
 // The record of a layer, from its row.
@@ -48,24 +50,19 @@ fn keyed_of(layer: usize, key: u64) -> KeyedLayer
     ensures { result ≡ keyed_layer layer key }
 {
     let row = rows::row_of(layer);
-    let h = row.bits / 2;
-    let k1 = feistel::next_key(h, key);
-    let k2 = feistel::next_key(h, k1);
-    let k3 = feistel::next_key(h, k2);
-    let k4 = feistel::next_key(h, k3);
+    let half = HalfBits::new(row.bits / 2);
+    let k1 = half.next_key(key);
+    let k2 = half.next_key(k1);
+    let k3 = half.next_key(k2);
     KeyedLayer {
-        half: h,
+        half: row.bits / 2,
         size: row.size,
         more: row.rounds - 4,
-        xor0: feistel::k_xor(key),
-        mul0: feistel::k_mul(key),
-        xor1: feistel::k_xor(k1),
-        mul1: feistel::k_mul(k1),
-        xor2: feistel::k_xor(k2),
-        mul2: feistel::k_mul(k2),
-        xor3: feistel::k_xor(k3),
-        mul3: feistel::k_mul(k3),
-        key: k4,
+        first: RoundKey::from(key),
+        second: RoundKey::from(k1),
+        third: RoundKey::from(k2),
+        fourth: RoundKey::from(k3),
+        key: half.next_key(k3),
     }
 }
 
@@ -74,42 +71,44 @@ impl KeyedLayer {
     pub const LAYER_LIMIT: u32 = 14;
 
     // A layer under a key; refusal 12 where there is no such layer.
-    pub fn new(layer: u32, key: u64) -> Keyed
-        ensures { told_keyed result ≡ keyed layer key }
+    pub fn new(layer: u32, key: u64) -> Result<KeyedLayer, Refusal>
+        ensures { told result ≡ keyed layer key }
     {
         if Self::LAYER_LIMIT < layer {
-            return Keyed::Refused(12);
+            return Err(Refusal::Misfit);
         }
-        Keyed::Made(keyed_of(layer as usize, key))
+        Ok(keyed_of(layer as usize, key))
     }
 
     // The layer at x, which counts modulo the size.
     pub fn apply(self, x: u32) -> u32
         ensures { result ≡ applied self x }
     {
-        let h = self.half % 16;
-        let key = self.key;
-        let mask = feistel::mask_of(h);
-        let s = feistel::start_of(h, key, x);
-        let a = feistel::turned(mask, s.l, s.r, self.xor0, self.mul0);
-        let b = feistel::turned(mask, s.r, a, self.xor1, self.mul1);
-        let c = feistel::turned(mask, a, b, self.xor2, self.mul2);
-        let d = feistel::turned(mask, b, c, self.xor3, self.mul3);
-        let t = feistel::rounds_of(h, self.more, Halves { l: c, r: d, key });
-        feistel::over_of(h, t)
+        let half = HalfBits::new(self.half % 16);
+        let s = half.start(self.key, x);
+        let a = half.turned(s.l, s.r, self.first);
+        let b = half.turned(s.r, a, self.second);
+        let c = half.turned(a, b, self.third);
+        let d = half.turned(b, c, self.fourth);
+        let four = Halves {
+            l: c,
+            r: d,
+            key: self.key,
+        };
+        half.over(half.rounds(self.more, four))
     }
 }
 
 // A layer at x; refusal 12 where there is no such layer or x is not below its size.
-pub fn layer_apply(layer: u32, key: u64, x: u32) -> Applied
+pub fn layer_apply(layer: u32, key: u64, x: u32) -> Result<u32, Refusal>
     ensures { told result ≡ layer_apply layer key x }
 {
     if KeyedLayer::LAYER_LIMIT < layer {
-        return Applied::Refused(12);
+        return Err(Refusal::Misfit);
     }
     let row = rows::row_of(layer as usize);
     if row.size <= x {
-        return Applied::Refused(12);
+        return Err(Refusal::Misfit);
     }
-    Applied::Output(feistel::network(row.bits / 2, row.rounds, key, x))
+    Ok(HalfBits::new(row.bits / 2).network(row.rounds, key, x))
 }

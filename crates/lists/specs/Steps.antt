@@ -9,6 +9,9 @@ pub record Step (W : Type 0) : Type 0 where
   pub said : Told (Option ℕ)
   pub walk : W
 
+abbrev pub stepped_to : {W : Type 0} → Told (Option ℕ) → W → Step W
+stepped_to said walk = record { said = said; walk = walk }
+
 -- what k calls of `next` say, each on the walk that the one before left
 unfoldable pub answers : {W : Type 0} → (W → Step W) → ℕ → W → List (Told (Option ℕ))
 answers step zero w = []

@@ -3,22 +3,22 @@
 use mathlib.Core.Path.{◌≡◌, ap, sym, ◌∙◌}
 use mathlib.Core.Bool.{true, false}
 use mathlib.Core.List.{List}
-use mathlib.Core.Option.{none}
+use mathlib.Core.Option.{none, some}
 use Prim.Native.Nat.{ℕ, ◌+◌, ◌-◌, ◌^◌, ◌<◌, ◌≤◌}
 use native.Mathlib.Omega.{arith}
 use lib.ListN.{length, take, get_or, take-append-drop}
 use lib.Seq.{take-length, take-take, get_or-take, length-take-le}
 use borrow.Author.Tests.{lt-ltb, le-ltb, eq-eqb, ne_eqb}
+use Rattle.lists.specs.Told.{says}
 use Rattle.lists.specs.Lists.{below, standing, last, written}
 use Rattle.lists.proofs.Standing.{standing_le, standing_same}
 use Rattle.layers.specs.Layer.{size}
-use Rattle.orders.specs.declared.Outcome.TheVariants.{Done, Refused}
 use Rattle.orders.specs.declared.consistent_reservoir.ConsistentReservoir.{ConsistentReservoir}
 use Rattle.orders.specs.declared.scans.Scan.{Scan}
 use Rattle.orders.specs.declared.scans.Wide.{Wide}
 use Rattle.orders.specs.Reservoirs.{outputs, grown, wider, incoming}
-use Rattle.orders.specs.ReservoirCalls.{key_of, j_of, listed, sample, fitting, reservoir_of, admitted, exchange_by, exchange, admit_call, layer_grown, grow_to, grow_layer_call}
-use Rattle.orders.specs.InnerPasses.{low_of, rank_of, laid_of, scan_of, wide_of, refusal, shifted, exchanged}
+use Rattle.orders.specs.ReservoirCalls.{key_of, j_of, listed, sample, fitting, reservoir_of, after, refused, exchange_by, exchange, admit_call, grow_to, grow_layer_call}
+use Rattle.orders.specs.InnerPasses.{low_of, rank_of, laid_of, scan_of, wide_of}
 use Rattle.orders.proofs.LogLaws.{size_in, pow_up}
 use Rattle.orders.proofs.AdmissionLaws.{zeros_at}
 use Rattle.orders.proofs.CheckLaws.{Fits, fits_parts, used_some}
@@ -43,7 +43,7 @@ module _ (r : ConsistentReservoir) (l : List ℕ) (fit : fitting r l ≡ true) (
   here_v = rw is (low_le r.n (listed r l))
 
   pub here_done : (u : ℕ) → u ≡ standing (below (v + 1)) r.k l (r.used - 1)
-      → admitted (exchanged r (j_of r) u v (get_or l (r.used - 1) 0)) l ≡ exchange r (j_of r) (listed r l) l
+      → after (says (some (v, get_or l (r.used - 1) 0))) (reservoir_of (key_of r) r.k (v + 1) (j_of r) u) l ≡ exchange r (j_of r) (listed r l) l
   unfolding exchange exchange_by written last
   here_done u e =
       let z : standing (below (v + 1)) r.k (listed r l) (r.used - 1) ≡ u =
@@ -111,11 +111,11 @@ module _ (r : ConsistentReservoir) (w : Wide) (l : List ℕ)
         rw (is, inputs_is) (grow_standing r w.layer l fact p.1 p.2 goes.high w.low v_from) in
         rw (v, m, t)
 
-    pub above_refused : length l < e → admitted (refusal r 4) l ≡ exchange r w.layer (grown (key_of r) w.layer r.k (listed r l)) l
+    pub above_refused : length l < e → refused 4 r l ≡ exchange r w.layer (grown (key_of r) w.layer r.k (listed r l)) l
     unfolding exchange_by
     above_refused h = sym (above_is ∙ rw (lt-ltb (length l) e h))
 
-    pub above_done : e ≤ length l → admitted (exchanged r w.layer e w.low (get_or l (r.k - 1) 0)) (laid_of (key_of r) w.layer e l)
+    pub above_done : e ≤ length l → after (says (some (w.low, get_or l (r.k - 1) 0))) (reservoir_of (key_of r) r.k (w.low + 1) w.layer e) (laid_of (key_of r) w.layer e l)
         ≡ exchange r w.layer (grown (key_of r) w.layer r.k (listed r l)) l
     unfolding exchange_by
     above_done h =
@@ -145,12 +145,12 @@ module _ (r : ConsistentReservoir) (l : List ℕ) (p : (fitting r l ≡ true) ×
   length_is = grow_length r (j_of r + 1) l raise_fact p.1 (omega (arith, p.2)) (omega arith) ∙ sym end_is
 
   pub raise_refused : length l < s.inputs
-      → layer_grown (record { reservoir = r; outcome = Refused 4 }) l ≡ grow_to r (grown (key_of r) (j_of r + 1) r.k (listed r l)) l
+      → refused 4 r l ≡ grow_to r (grown (key_of r) (j_of r + 1) r.k (listed r l)) l
   unfolding grow_to
   raise_refused h = rw (length_is, lt-ltb (length l) s.inputs h)
 
   pub raise_done : s.inputs ≤ length l
-      → layer_grown (record { reservoir = reservoir_of (key_of r) r.k r.n (j_of r + 1) s.inputs; outcome = Done }) (laid_of (key_of r) (j_of r + 1) s.inputs l)
+      → after (says tt) (reservoir_of (key_of r) r.k r.n (j_of r + 1) s.inputs) (laid_of (key_of r) (j_of r + 1) s.inputs l)
       ≡ grow_to r (grown (key_of r) (j_of r + 1) r.k (listed r l)) l
   unfolding grow_to
   raise_done h =
@@ -163,7 +163,7 @@ module _ (r : ConsistentReservoir) (l : List ℕ) (p : (fitting r l ≡ true) ×
 
 -- ---- the calls, by what their tests found
 
-pub admit_unfit : (r : ConsistentReservoir) (l : List ℕ) → fitting r l ≡ false → admitted (refusal r 12) l ≡ admit_call r l
+pub admit_unfit : (r : ConsistentReservoir) (l : List ℕ) → fitting r l ≡ false → refused 12 r l ≡ admit_call r l
 unfolding admit_call
 admit_unfit r l e = rw e
 
@@ -172,7 +172,7 @@ unfolding admit_call
 admit_longer r l e h = rw (e, lt-ltb r.k r.used h)
 
 pub admit_none : (r : ConsistentReservoir) (l : List ℕ) → fitting r l ≡ true → r.used ≤ r.k → wider (key_of r) r.k (j_of r) ≡ none
-    → admitted (shifted r) l ≡ admit_call r l
+    → after (says none) (reservoir_of (key_of r) r.k r.n 14 r.used) l ≡ admit_call r l
 unfolding admit_call
 admit_none r l e h f = rw (e, le-ltb r.k r.used h, f)
 
@@ -181,15 +181,15 @@ pub admit_grown : (r : ConsistentReservoir) (l : List ℕ) (w : Wide) → fittin
 unfolding admit_call
 admit_grown r l w e h f b = rw (e, le-ltb r.k r.used h, (found (key_of r) r.k (j_of r) w f b).is)
 
-pub grow_unfit : (r : ConsistentReservoir) (l : List ℕ) → fitting r l ≡ false → layer_grown (record { reservoir = r; outcome = Refused 12 }) l ≡ grow_layer_call r l
+pub grow_unfit : (r : ConsistentReservoir) (l : List ℕ) → fitting r l ≡ false → refused 12 r l ≡ grow_layer_call r l
 unfolding grow_layer_call
 grow_unfit r l e = rw e
 
-pub grow_seven : (r : ConsistentReservoir) (l : List ℕ) → fitting r l ≡ true → r.k < r.used → layer_grown (record { reservoir = r; outcome = Refused 7 }) l ≡ grow_layer_call r l
+pub grow_seven : (r : ConsistentReservoir) (l : List ℕ) → fitting r l ≡ true → r.k < r.used → refused 7 r l ≡ grow_layer_call r l
 unfolding grow_layer_call
 grow_seven r l e h = rw (e, lt-ltb r.k r.used h)
 
-pub grow_eight : (r : ConsistentReservoir) (l : List ℕ) → fitting r l ≡ true → r.used ≤ r.k → j_of r ≡ 14 → layer_grown (record { reservoir = r; outcome = Refused 8 }) l ≡ grow_layer_call r l
+pub grow_eight : (r : ConsistentReservoir) (l : List ℕ) → fitting r l ≡ true → r.used ≤ r.k → j_of r ≡ 14 → refused 8 r l ≡ grow_layer_call r l
 unfolding grow_layer_call
 grow_eight r l e h f = rw (e, le-ltb r.k r.used h, eq-eqb (j_of r) 14 f)
 

@@ -43,24 +43,6 @@ outs_none key i x N h =
 
 -- ---- the record of a layer
 
--- what `KeyedLayer::new` made, and that it does not refuse
-pub keyed_made : (i key : ℕ) (r : Told KeyedLayer) (f : KeyedLayer) → i < 15 → r ≡ keyed i key → r ≡ says f → f ≡ keyed_layer i key
-keyed_made i key r f h e g = let d : keyed i key ≡ says (keyed_layer i key) = keyed_in i key (omega arith) in cc
-
-pub keyed_not : {A : Type 0} (i key : ℕ) (r : Told KeyedLayer) (c : ℕ) → i < 15 → r ≡ keyed i key → r ≡ refusal c → A
-keyed_not i key r c h e g =
-    let d : keyed i key ≡ says (keyed_layer i key) = keyed_in i key (omega arith) in
-    let z : ◌≡◌ {A = ℕ} 0 1 = cc in absurd (omega arith)
-
--- the same of `layer_apply`
-pub output_made : (i key x : ℕ) (r : Told ℕ) (y : ℕ) → i < 15 → x < size i → r ≡ layer_apply i key x → r ≡ says y → y ≡ layer i key x
-output_made i key x r y h l e g = let d : layer_apply i key x ≡ says (layer i key x) = apply_in i key x (omega arith) l in cc
-
-pub output_not : {A : Type 0} (i key x : ℕ) (r : Told ℕ) (c : ℕ) → i < 15 → x < size i → r ≡ layer_apply i key x → r ≡ refusal c → A
-output_not i key x r c h l e g =
-    let d : layer_apply i key x ≡ says (layer i key x) = apply_in i key x (omega arith) l in
-    let z : ◌≡◌ {A = ℕ} 0 1 = cc in absurd (omega arith)
-
 pub keyed_size : (f : KeyedLayer) (i key : ℕ) → f ≡ keyed_layer i key → f.size ≡ size i
 keyed_size f i key e = ap (λ (g : KeyedLayer). g.size) e
 

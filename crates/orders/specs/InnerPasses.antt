@@ -11,9 +11,8 @@ use Rattle.orders.specs.declared.scans.Wide.{Wide}
 use Rattle.orders.specs.declared.checks.Survey.{Survey}
 use Rattle.orders.specs.declared.checks.Check.{Check}
 use Rattle.orders.specs.Reservoirs.{outputs, up_to_zeros, wider}
-use Rattle.orders.specs.declared.consistent_reservoir.Admitted.{Admitted}
-use Rattle.orders.specs.declared.consistent_reservoir.Exchange.TheVariants.{InOut, Nothing, Refused}
-use Rattle.orders.specs.ReservoirCalls.{key_of, j_of, listed, fitting, reservoir_of}
+use Rattle.orders.specs.declared.consistent_reservoir.Exchange.{Exchange}
+use Rattle.orders.specs.ReservoirCalls.{j_of, listed, fitting}
 
 -- c outputs of layer i from the input x on
 abbrev pub outs : ℕ → ℕ → ℕ → ℕ → List ℕ
@@ -90,13 +89,6 @@ close_of r s x = eqb s.count r.k && ltb s.high (size (j_of r)) && ltb x r.n
 unfoldable pub check_of : ConsistentReservoir → List ℕ → Check
 check_of r l = record { fits = fitting r l; low = cond (fitting r l) (low_of r.n (listed r l)) 0 }
 
--- ---- what admit answers, as the code puts it together
-
-abbrev pub refusal : ConsistentReservoir → ℕ → Admitted
-refusal r c = record { reservoir = r; exchange = Refused c }
-
-abbrev pub shifted : ConsistentReservoir → Admitted
-shifted r = record { reservoir = reservoir_of (key_of r) r.k r.n 14 r.used; exchange = Nothing }
-
-abbrev pub exchanged : ConsistentReservoir → ℕ → ℕ → ℕ → ℕ → Admitted
-exchanged r j u v x = record { reservoir = reservoir_of (key_of r) r.k (v + 1) j u; exchange = InOut v x }
+-- what an admit that exchanges says
+abbrev pub exchanged : Exchange → Option (ℕ × ℕ)
+exchanged e = some (e.enters, e.leaves)

@@ -1,6 +1,5 @@
 pub mod Orders
 pub mod Reservoirs
-pub mod Outcomes
 pub mod OrderCalls
 pub mod ReservoirCalls
 pub mod Histories

@@ -7,11 +7,6 @@ use Rattle.lists.specs.Steps.{Step}
 use Rattle.lists.specs.Lists.{below, zero_to, every}
 use Rattle.layers.specs.Layer.{size}
 use Rattle.orders.specs.declared.consistent_permutation.ConsistentPermutation.{ConsistentPermutation}
-use Rattle.orders.specs.declared.consistent_permutation.Given.{Given}
-use Rattle.orders.specs.declared.consistent_permutation.Given.TheVariants.{Number, Nothing, Refused}
-use Rattle.orders.specs.declared.consistent_permutation.Started.{Started}
-use Rattle.orders.specs.declared.consistent_permutation.Stepped.{Stepped}
-use Rattle.orders.specs.Outcomes.{told_outcome}
 use Rattle.orders.specs.Orders.{layer_of, counter, none_counted, output, zero_top, next_number}
 
 -- an order, by its key, n and counters
@@ -23,31 +18,13 @@ key_of o = o.master_key
 
 -- ---- new
 
--- what `new` says, and the order beside it
-pub record Start : Type 0 where
-  pub told : Told (Unit {0})
-  pub order : ConsistentPermutation
-
-abbrev pub started : Started → Start
-started s = record { told = told_outcome s.outcome; order = s.order }
-
--- 1: "n above 2^30". The order beside a refusal is the empty one.
-unfoldable pub new_call : ℕ → ℕ → Start
-new_call n key =
-    cond (ltb (2 ^ 30) n) (record { told = refusal 1; order = order_of key 0 none_counted })
-    (record { told = says tt; order = order_of key n none_counted })
+-- 1: "n above 2^30"
+unfoldable pub new_call : ℕ → ℕ → Told ConsistentPermutation
+new_call n key = cond (ltb (2 ^ 30) n) (refusal 1) (says (order_of key n none_counted))
 
 -- ---- next
 
--- 01's number, or the number given, or none
-abbrev pub told_given : Given → Told (Option ℕ)
-told_given (Number y) = says (some y)
-told_given Nothing = says none
-told_given (Refused c) = refusal c
-
-abbrev pub stepped : Stepped → Step ConsistentPermutation
-stepped s = record { said = told_given s.given; walk = s.order }
-
+-- what it says, and the order after it
 abbrev pub step : Told (Option ℕ) → ConsistentPermutation → Step ConsistentPermutation
 step t o = record { said = t; walk = o }
 

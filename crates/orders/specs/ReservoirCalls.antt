@@ -1,18 +1,15 @@
 -- What the reservoir's calls say and leave, on any record and any list.
 -- Assumes nothing.
-use Rattle.std.specs.Prelude.{Bool, cond, ◌&&◌, List, ℕ, ◌+◌, ◌-◌, ◌^◌, ltb, leb, eqb, length, take}
+use Rattle.std.specs.Prelude.{Result, Ok, Err, Bool, cond, ◌&&◌, List, ℕ, ◌+◌, ◌-◌, ◌^◌, ltb, leb, eqb, length, take}
+use Rattle.std.specs.Prelude as rust
 use Rattle.std.proofs.Math.Option.{Option, none, some}
 use Rattle.lists.specs.Told.{Told, refusal, says}
+use Rattle.answers.specs.declared.Refusal.{Refusal}
+use Rattle.answers.specs.Refusals.{number}
 use Rattle.lists.specs.Lists.{keep, below, every, standing, last, written}
 use Rattle.layers.specs.Layer.{size}
 use Rattle.orders.specs.declared.consistent_reservoir.ConsistentReservoir.{ConsistentReservoir}
-use Rattle.orders.specs.declared.consistent_reservoir.Opened.{Opened}
-use Rattle.orders.specs.declared.consistent_reservoir.Opened.TheVariants as opened
 use Rattle.orders.specs.declared.consistent_reservoir.Exchange.{Exchange}
-use Rattle.orders.specs.declared.consistent_reservoir.Exchange.TheVariants.{InOut, Nothing, Refused}
-use Rattle.orders.specs.declared.consistent_reservoir.Admitted.{Admitted}
-use Rattle.orders.specs.declared.consistent_reservoir.LayerGrown.{LayerGrown}
-use Rattle.orders.specs.Outcomes.{told_outcome}
 use Rattle.orders.specs.Orders.{layer_of}
 use Rattle.orders.specs.Reservoirs.{counts, opening, incoming, grown, wider}
 
@@ -44,10 +41,6 @@ fitting r l =
 pub record AfterOpen : Type 0 where
   pub told : Told ConsistentReservoir
   pub list : List ℕ
-
-abbrev pub told_opened : Opened → Told ConsistentReservoir
-told_opened (opened.Made r) = says r
-told_opened (opened.Refused c) = refusal c
 
 abbrev pub after_open : Told ConsistentReservoir → List ℕ → AfterOpen
 after_open t l = record { told = t; list = l }
@@ -84,13 +77,11 @@ after t r l = record { told = t; reservoir = r; list = l }
 abbrev pub refused : {A : Type 0} → ℕ → ConsistentReservoir → List ℕ → After A
 refused c r l = after (refusal c) r l
 
-abbrev pub told_exchange : Exchange → Told (Option (ℕ × ℕ))
-told_exchange (InOut v x) = says (some (v, x))
-told_exchange Nothing = says none
-told_exchange (Refused c) = refusal c
-
-abbrev pub admitted : Admitted → List ℕ → After (Option (ℕ × ℕ))
-admitted a l = after (told_exchange a.exchange) a.reservoir l
+-- the location that comes in and the one that goes out, none, or the refusal's number
+abbrev pub told_exchange : Result (rust.Option Exchange) Refusal → Told (Option (ℕ × ℕ))
+told_exchange (Ok (rust.Some e)) = says (some (e.enters, e.leaves))
+told_exchange (Ok rust.None) = says none
+told_exchange (Err why) = refusal (number why)
 
 -- An exchange at layer i, where xs is listed, by v, after which u places stand. 4: "a lent list shorter than .. the used length
 -- that the call would end with".
@@ -119,9 +110,6 @@ admit_call r l =
     (exchange r (j_of r) (listed r l) l)
     (admit_at r l (wider (key_of r) r.k (j_of r))))
     (refused 12 r l)
-
-abbrev pub layer_grown : LayerGrown → List ℕ → After (Unit {0})
-layer_grown a l = after (told_outcome a.outcome) a.reservoir l
 
 -- to layer j+1, where xs is listed then
 unfoldable pub grow_to : ConsistentReservoir → List ℕ → List ℕ → After (Unit {0})

@@ -1,16 +1,18 @@
 // The reservoir of document 01: k of n locations, and which come in as n grows. The locations stand in a list that is lent to
 // each call.
-ghost use Rattle.std.specs.Prelude.{◌≡◌, ◌+◌, ◌^◌, ◌<◌, ◌≤◌, true, length};
-ghost use Rattle.orders.specs.Outcomes.{told_outcome};
+ghost use Rattle.std.specs.Prelude.{◌≡◌, ◌+◌, ◌<◌, ◌≤◌, true};
+ghost use Rattle.lists.specs.Told.{map_told, says};
+ghost use Rattle.answers.specs.Refusals.{number, told};
 ghost use Rattle.orders.specs.Reservoirs.{grown};
-ghost use Rattle.orders.specs.ReservoirCalls.{key_of, j_of, listed, fitting, after_open, told_opened, open_call, short_refusal, admitted, exchange, admit_call, layer_grown, grow_to, grow_layer_call, after_sample, sample_call};
-ghost use Rattle.orders.specs.InnerPasses.{wide_of, low_of, refusal, exchanged, shifted};
+ghost use Rattle.orders.specs.ReservoirCalls.{key_of, j_of, listed, fitting, after_open, open_call, short_refusal, told_exchange, after, exchange, admit_call, grow_to, grow_layer_call, after_sample, sample_call};
+ghost use Rattle.orders.specs.InnerPasses.{wide_of, low_of, exchanged};
 
 use crate::scans::Wide;
-use crate::{Outcome, checks, fills, scans};
+use crate::{checks, fills, scans};
+use answers::Refusal;
 
 // A reservoir's numbers: the key, k, n, the layer and how many places of the list are in use.
-#[derive(Clone, Copy)]
+#[derive(Clone, Copy, Debug, PartialEq, Eq)]
 pub struct ConsistentReservoir {
     pub master_key: u64,
     pub k: u32,
@@ -19,147 +21,11 @@ pub struct ConsistentReservoir {
     pub used: u32,
 }
 
-// A reservoir, or a refusal with its number.
-#[derive(Clone, Copy)]
-pub enum Opened {
-    Made(ConsistentReservoir),
-    Refused(u32),
-}
-
-// What an admit says: the location that came in and the one that went out, that none is due, or a refusal with its number.
-#[derive(Clone, Copy)]
-pub enum Exchange {
-    InOut(u32, u32),
-    Nothing,
-    Refused(u32),
-}
-
-// The reservoir after an admit, and what that said.
-#[derive(Clone, Copy)]
-pub struct Admitted {
-    pub reservoir: ConsistentReservoir,
-    pub exchange: Exchange,
-}
-
-// The reservoir after the growth of a layer, and whether it was refused.
-#[derive(Clone, Copy)]
-pub struct LayerGrown {
-    pub reservoir: ConsistentReservoir,
-    pub outcome: Outcome,
-}
-
-// ---- what admit answers
-
-fn refuse(r: ConsistentReservoir, why: u32) -> Admitted
-    ensures { result ≡ refusal r why }
-{
-    Admitted {
-        reservoir: r,
-        exchange: Exchange::Refused(why),
-    }
-}
-
-fn nothing(r: ConsistentReservoir) -> Admitted
-    ensures { result ≡ shifted r }
-{
-    Admitted {
-        reservoir: ConsistentReservoir {
-            master_key: r.master_key,
-            k: r.k,
-            n: r.n,
-            j_max: 14,
-            used: r.used,
-        },
-        exchange: Exchange::Nothing,
-    }
-}
-
-// The location v came in and x went out.
-fn in_out(r: ConsistentReservoir, layer: u32, used: u32, v: u32, x: u32) -> Admitted
-    requires { v ≤ 4 ^ 15 }
-    ensures { result ≡ exchanged r layer used v x }
-{
-    Admitted {
-        reservoir: ConsistentReservoir {
-            master_key: r.master_key,
-            k: r.k,
-            n: v + 1,
-            j_max: layer,
-            used,
-        },
-        exchange: Exchange::InOut(v, x),
-    }
-}
-
-// An admit that does not grow: v comes in, and nothing is written.
-fn admit_here(r: ConsistentReservoir, list: &[u32], v: u32) -> Admitted
-    requires { (fitting r list.now ≡ true) × (r.k < r.used) × (v ≡ low_of r.n (listed r list.now)) }
-    ensures { admitted result list.now ≡ exchange r (j_of r) (listed r list.now) list.now }
-{
-    let used = r.used;
-    let k = r.k;
-    let end = scans::trimmed(list, v, k, used - 1);
-    let last = (used - 1) as usize;
-    let x = list[last];
-    let j = r.j_max;
-    in_out(r, j, end, v, x)
-}
-
-// An admit from the list of a higher layer: the end first, then the fill from the back.
-fn admit_above(r: ConsistentReservoir, w: Wide, list: &mut [u32]) -> Admitted
-    requires { (fitting r list.old ≡ true) × (r.used ≤ r.k) × (w.layer < 15) × (w ≡ wide_of (key_of r) r.k (j_of r)) }
-    ensures { admitted result list.new ≡ exchange r w.layer (grown (key_of r) w.layer r.k (listed r list.old)) list.old }
-{
-    let i = w.layer;
-    let v = w.low;
-    let k = r.k;
-    let key = r.master_key;
-    let inputs = w.inputs;
-    let end = scans::ended(i, key, v, k, inputs - 1);
-    if list.len() < (end as usize) {
-        return refuse(r, 4);
-    }
-    let last = (k - 1) as usize;
-    let x = list[last];
-    fills::cover(i, key, end, k - 1, list);
-    in_out(r, i, end, v, x)
-}
-
-// ---- grow_layer
-
-fn refuse_growth(r: ConsistentReservoir, why: u32) -> LayerGrown
-    ensures { result ≡ record { reservoir = r; outcome = Outcome.Refused why } }
-{
-    LayerGrown {
-        reservoir: r,
-        outcome: Outcome::Refused(why),
-    }
-}
-
-// The list of the next layer.
-fn raise(r: ConsistentReservoir, list: &mut [u32]) -> LayerGrown
-    requires { (fitting r list.old ≡ true) × (r.used ≤ r.k) × (j_of r < 14) }
-    ensures { layer_grown result list.new ≡ grow_to r (grown (key_of r) (j_of r + 1) r.k (listed r list.old)) list.old }
-{
-    let i = r.j_max + 1;
-    let k = r.k;
-    let key = r.master_key;
-    let s = scans::scan_zeros(i, key, k);
-    let inputs = s.inputs;
-    if list.len() < (inputs as usize) {
-        return refuse_growth(r, 4);
-    }
-    fills::cover(i, key, inputs, k, list);
-    LayerGrown {
-        reservoir: ConsistentReservoir {
-            master_key: key,
-            k,
-            n: r.n,
-            j_max: i,
-            used: inputs,
-        },
-        outcome: Outcome::Done,
-    }
+// What an admit exchanges: the location that comes in and the one that goes out.
+#[derive(Clone, Copy, Debug, PartialEq, Eq)]
+pub struct Exchange {
+    pub enters: u32,
+    pub leaves: u32,
 }
 
 impl ConsistentReservoir {
@@ -170,30 +36,30 @@ impl ConsistentReservoir {
     pub const LAYER_LIMIT: u32 = 14;
 
     // Open with k of n: refusals 1, 2, 3, 4.
-    pub fn new(k: u32, n: u32, key: u64, list: &mut [u32]) -> Opened
-        ensures { after_open (told_opened result) list.new ≡ open_call k n key list.old }
+    pub fn new(k: u32, n: u32, key: u64, list: &mut [u32]) -> Result<Self, Refusal>
+        ensures { after_open (told result) list.new ≡ open_call k n key list.old }
     {
         if Self::N_LIMIT < n {
-            return Opened::Refused(1);
+            return Err(Refusal::NAboveLimit);
         }
         if k == 0 {
-            return Opened::Refused(2);
+            return Err(Refusal::KIsZero);
         }
         if n < k {
-            return Opened::Refused(3);
+            return Err(Refusal::KAboveN);
         }
         // The used length is at least k, so that a list too short for k is known before the scan.
         if list.len() < (k as usize) {
-            return Opened::Refused(4);
+            return Err(Refusal::ShortMemory);
         }
         let j = scans::layer_of(n);
         let s = scans::scan_below(j, key, n, k);
         let used = s.inputs;
         if list.len() < (used as usize) {
-            return Opened::Refused(4);
+            return Err(Refusal::ShortMemory);
         }
         fills::lay(j + 1, key, used, list);
-        Opened::Made(ConsistentReservoir {
+        Ok(ConsistentReservoir {
             master_key: key,
             k,
             n,
@@ -203,19 +69,19 @@ impl ConsistentReservoir {
     }
 
     // The refusal of an open with k of n for which some memory is too short: 1, 2, 3, else 4.
-    pub fn short_refusal(k: u32, n: u32) -> u32
-        ensures { result ≡ short_refusal k n }
+    pub fn short_refusal(k: u32, n: u32) -> Refusal
+        ensures { number result ≡ short_refusal k n }
     {
         if Self::N_LIMIT < n {
-            return 1;
+            return Refusal::NAboveLimit;
         }
         if k == 0 {
-            return 2;
+            return Refusal::KIsZero;
         }
         if n < k {
-            return 3;
+            return Refusal::KAboveN;
         }
-        4
+        Refusal::ShortMemory
     }
 
     // Whether the record fits its list: refusal 12 of the other calls.
@@ -226,57 +92,112 @@ impl ConsistentReservoir {
     }
 
     // Admit: refusals 12, 4.
-    pub fn next(self, list: &mut [u32]) -> Admitted
-        ensures { admitted result list.new ≡ admit_call self list.old }
+    pub fn next(&mut self, list: &mut [u32]) -> Result<Option<Exchange>, Refusal>
+        ensures { after (told_exchange result) self.new list.new ≡ admit_call self.old list.old }
     {
-        let c = checks::checked(self, list);
+        let c = checks::checked(*self, list);
         if !c.fits {
-            return refuse(self, 12);
+            return Err(Refusal::Misfit);
         }
-        let k = self.k;
-        if k < self.used {
-            return admit_here(self, list, c.low);
+        if self.k < self.used {
+            return Ok(Some(self.admit_here(list, c.low)));
         }
-        let w = scans::wider_than(self.j_max, self.master_key, k);
+        let w = scans::wider_than(self.j_max, self.master_key, self.k);
         if Self::LAYER_LIMIT < w.layer {
-            return nothing(self);
+            self.j_max = Self::LAYER_LIMIT;
+            return Ok(None);
         }
-        admit_above(self, w, list)
+        let exchange = self.admit_above(w, list)?;
+        Ok(Some(exchange))
+    }
+
+    // An admit that does not grow: v comes in, and nothing is written.
+    fn admit_here(&mut self, list: &[u32], v: u32) -> Exchange
+        requires fit { fitting self.old list.now ≡ true }
+        requires more { self.old.k < self.old.used }
+        requires low { v ≡ low_of self.old.n (listed self.old list.now) }
+        ensures { after (says (exchanged result)) self.new list.now ≡ exchange self.old (j_of self.old) (listed self.old list.now) list.now }
+    {
+        let last = self.used - 1;
+        let end = scans::trimmed(list, v, self.k, last);
+        self.n = v + 1;
+        self.used = end;
+        Exchange {
+            enters: v,
+            leaves: list[last as usize],
+        }
+    }
+
+    // An admit from the list of a higher layer: the end first, then the fill from the back.
+    fn admit_above(&mut self, w: Wide, list: &mut [u32]) -> Result<Exchange, Refusal>
+        requires fit { fitting self.old list.old ≡ true }
+        requires full { self.old.used ≤ self.old.k }
+        requires layer { w.layer < 15 }
+        requires wide { w ≡ wide_of (key_of self.old) self.old.k (j_of self.old) }
+        ensures { after (map_told exchanged (told result)) self.new list.new ≡ exchange self.old w.layer (grown (key_of self.old) w.layer self.old.k (listed self.old list.old)) list.old }
+    {
+        let last = self.k - 1;
+        let end = scans::ended(w.layer, self.master_key, w.low, self.k, w.inputs - 1);
+        if list.len() < (end as usize) {
+            return Err(Refusal::ShortMemory);
+        }
+        let leaves = list[last as usize];
+        fills::cover(w.layer, self.master_key, end, last, list);
+        self.n = w.low + 1;
+        self.j_max = w.layer;
+        self.used = end;
+        Ok(Exchange {
+            enters: w.low,
+            leaves,
+        })
     }
 
     // The step to the next layer: refusals 12, 7, 8, 4.
-    pub fn grow_layer(self, list: &mut [u32]) -> LayerGrown
-        ensures { layer_grown result list.new ≡ grow_layer_call self list.old }
+    pub fn grow_layer(&mut self, list: &mut [u32]) -> Result<(), Refusal>
+        ensures { after (told result) self.new list.new ≡ grow_layer_call self.old list.old }
     {
-        let c = checks::checked(self, list);
-        if !c.fits {
-            return refuse_growth(self, 12);
+        if !self.fits(list) {
+            return Err(Refusal::Misfit);
         }
         if self.k < self.used {
-            return refuse_growth(self, 7);
+            return Err(Refusal::NumbersWait);
         }
         if self.j_max == Self::LAYER_LIMIT {
-            return refuse_growth(self, 8);
+            return Err(Refusal::TopLayer);
         }
-        raise(self, list)
+        self.raise(list)
+    }
+
+    // The list of the next layer.
+    fn raise(&mut self, list: &mut [u32]) -> Result<(), Refusal>
+        requires fit { fitting self.old list.old ≡ true }
+        requires full { self.old.used ≤ self.old.k }
+        requires layer { j_of self.old < 14 }
+        ensures { after (told result) self.new list.new ≡ grow_to self.old (grown (key_of self.old) (j_of self.old + 1) self.old.k (listed self.old list.old)) list.old }
+    {
+        let i = self.j_max + 1;
+        let inputs = scans::scan_zeros(i, self.master_key, self.k).inputs;
+        if list.len() < (inputs as usize) {
+            return Err(Refusal::ShortMemory);
+        }
+        fills::cover(i, self.master_key, inputs, self.k, list);
+        self.j_max = i;
+        self.used = inputs;
+        Ok(())
     }
 
     // The sample, in the first k places of another list: refusals 12, 4.
-    pub fn reservoir(self, list: &[u32], out: &mut [u32]) -> Outcome
-        ensures { after_sample (told_outcome result) out.new ≡ sample_call self list.now out.old }
+    pub fn reservoir(self, list: &[u32], out: &mut [u32]) -> Result<(), Refusal>
+        ensures { after_sample (told result) out.new ≡ sample_call self list.now out.old }
     {
-        let c = checks::checked(self, list);
-        if !c.fits {
-            return Outcome::Refused(12);
+        if !self.fits(list) {
+            return Err(Refusal::Misfit);
         }
-        let k = self.k as usize;
-        if out.len() < k {
-            return Outcome::Refused(4);
+        if out.len() < (self.k as usize) {
+            return Err(Refusal::ShortMemory);
         }
-        let used = self.used as usize;
-        let n = self.n;
-        fills::gather(list, used, n, out);
-        Outcome::Done
+        fills::gather(list, self.used as usize, self.n, out);
+        Ok(())
     }
 
     pub fn n(self) -> u32

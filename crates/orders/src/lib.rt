@@ -8,10 +8,3 @@ mod counters;
 mod fills;
 mod scans;
 mod steps;
-
-// What a call says that has no number to give.
-#[derive(Clone, Copy)]
-pub enum Outcome {
-    Done,
-    Refused(u32),
-}

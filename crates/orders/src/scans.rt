@@ -8,7 +8,7 @@ ghost use Rattle.orders.specs.Reservoirs.{outputs};
 ghost use Rattle.orders.specs.InnerPasses.{scan_of, rank_of, wide_of};
 
 use crate::steps;
-use layers::{Applied, Keyed, KeyedLayer};
+use layers::KeyedLayer;
 
 // The inputs of a layer up to and with its k-th output below a bound, and the smallest output not below it.
 #[derive(Drop)]
@@ -52,40 +52,20 @@ pub(crate) fn quarter_of(j: u32) -> u32
     1u32 << (2 * j)
 }
 
-// Layer i at x, for one output: to make a record of the layer costs more. For a layer above 14 or an x past its size, which do
-// not come, anything.
+// Layer i at x, for one output: to make a record of the layer costs more.
 pub(crate) fn output_at(i: u32, key: u64, x: u32) -> u32
     requires { (i < 15) × (x < size i) }
     ensures { result ≡ layer i key x }
 {
-    match layers::layer_apply(i, key, x) {
-        Applied::Output(y) => y,
-        Applied::Refused(c) => c,
-    }
+    layers::layer_apply(i, key, x).unwrap()
 }
 
-// A layer under a key. For a layer above 14, which does not come, anything.
+// A layer under a key.
 pub(crate) fn keyed_at(i: u32, key: u64) -> KeyedLayer
     requires { i < 15 }
     ensures { result ≡ keyed_layer i key }
 {
-    match KeyedLayer::new(i, key) {
-        Keyed::Made(f) => f,
-        Keyed::Refused(c) => KeyedLayer {
-            half: 0,
-            size: 0,
-            more: 0,
-            xor0: 0,
-            mul0: 0,
-            xor1: 0,
-            mul1: 0,
-            xor2: 0,
-            mul2: 0,
-            xor3: 0,
-            mul3: 0,
-            key: 0,
-        },
-    }
+    KeyedLayer::new(i, key).unwrap()
 }
 
 // Layer i at x. Its number and key stand beside the record for the promise only.

@@ -1,6 +1,6 @@
 -- `layers::layer_apply` meets its contract.
 -- Assumes nothing.
-use Rattle.std.proofs.Common.{◌<◌, ◌≤◌, ap, ◌∙◌, arith, le-ltb, lt-ltb, le-leb}
+use Rattle.std.proofs.Common.{◌<◌, ◌≤◌, ap, arith, le-ltb, lt-ltb, le-leb}
 use borrow.Author.Tests.{lt-leb}
 use Rattle.lists.specs.Told.{says}
 use Rattle.layers.specs.Layer.{size}
@@ -19,8 +19,8 @@ returns-then-row-x c =
     let q : size a.layer ≤ a.x = omega (arith, size_of_row _ _ c.row_of-row.ensures) in
     simp (le-leb a.layer 14 (omega arith), le-ltb _ _ q)
 
-pub network-requires : goal.network-requires
-network-requires c = omega (arith, half _ _ c.row_of-row.ensures)
+pub new-requires : goal.new-requires
+new-requires c = omega (arith, half _ _ c.row_of-row.ensures)
 
 pub returns : goal.returns
 unfolding layer_apply
@@ -28,4 +28,4 @@ returns c =
     let a = c.args in
     let e = c.row_of-row.ensures in
     let q : a.x < size a.layer = omega (arith, size_of_row _ _ e) in
-    simp (le-leb a.layer 14 (omega arith), lt-ltb _ _ q) (ap says (c.network.ensures ∙ row_layer a.layer a.key a.x _ e))
+    simp (le-leb a.layer 14 (omega arith), lt-ltb _ _ q) (ap says (rw (c.network.ensures, c.new.ensures) (row_layer a.layer a.key a.x _ e)))

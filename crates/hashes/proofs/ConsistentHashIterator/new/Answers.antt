@@ -13,4 +13,4 @@ returns-then-n-gt-N_LIMIT c = sym (limited_out c.args.n _ (omega arith))
 pub returns : goal.returns
 returns c =
     let a = c.args in
-    ap (λ (x : ℕ). says (record { state = a.state; low = x })) c.low_of.ensures ∙ sym (limited_in a.n _ (omega arith))
+    ap (λ (x : ℕ). says (record { state = a.state; low = x })) c.low_of-low.ensures ∙ sym (limited_in a.n _ (omega arith))

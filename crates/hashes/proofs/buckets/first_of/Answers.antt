@@ -9,7 +9,7 @@ returns-then-x-n c =
     let a = c.args in
     rw (below_yes a.x a.n (omega arith))
 
-pub returns : goal.returns
-returns c =
+pub returns-else-x-n : goal.returns-else-x-n
+returns-else-x-n c =
     let a = c.args in
     rw (below_no a.x a.n (omega arith))

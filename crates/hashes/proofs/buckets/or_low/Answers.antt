@@ -9,7 +9,7 @@ returns-then-x-b c =
     let a = c.args in
     rw (below_yes a.x a.b (omega arith))
 
-pub returns : goal.returns
-returns c =
+pub returns-else-x-b : goal.returns-else-x-b
+returns-else-x-b c =
     let a = c.args in
     rw (below_no a.x a.b (omega arith))

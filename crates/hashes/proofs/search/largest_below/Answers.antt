@@ -28,27 +28,29 @@ returns-then-rest-eq0 c =
     let a = c.args in
     sym (prev_width a.state a.n (search rules) (search rules) ∙ under_over a.state a.n (buckets_below a.n) (sym c.bits_below-rest.ensures ∙ c.if-rest-eq0.true))
 
-pub first_number-x-requires : goal.first_number-x-requires
-first_number-x-requires c = (less (goal.at.first_number-x-requires c).After-highest-j).0
+pub new-bucket-requires : goal.new-bucket-requires
+new-bucket-requires c = (less (goal.at.new-bucket-requires c).After-highest-j).0
 
 pub returns-then-x-n : goal.returns-then-x-n
 returns-then-x-n c =
     let a = c.args in
-    under_hit a.state a.n (buckets_below a.n) c.highest-j.result (from (goal.at.returns-then-x-n c).After-highest-j) (to (goal.at.returns-then-x-n c).After-highest-j) _ _ c.opened-d.ensures c.first_number-x.ensures (search rules)
+    let b = c.new-bucket.ensures in
+    under_hit a.state a.n (buckets_below a.n) c.highest-j.result (from (goal.at.returns-then-x-n c).After-highest-j) (to (goal.at.returns-then-x-n c).After-highest-j) _ _ (rw b at c.opened-d.ensures) (rw b at c.first_number-x.ensures) (search rules)
     ∙ sym (prev_width a.state a.n (search rules) (search rules))
 
 pub highest_under-low-requires : goal.highest_under-low-requires
 highest_under-low-requires c = less (goal.at.highest_under-low-requires c).After-highest-j
 
 pub later_below-requires : goal.later_below-requires
-later_below-requires c = less (goal.at.later_below-requires c).After-highest-j
+later_below-requires c = rw c.new-bucket.ensures (less (goal.at.later_below-requires c).After-highest-j).1
 
 pub returns : goal.returns
 returns c =
     let a = c.args in
+    let b = c.new-bucket.ensures in
     let j : ℕ = c.highest-j.result in
     let d : ℕ = c.opened-d.result in
-    c.later_below.ensures
+    (rw b at c.later_below.ensures)
     ∙ ap (λ (low : ℕ). first_later a.n j low 255 d) c.highest_under-low.ensures
-    ∙ under_miss a.state a.n (buckets_below a.n) j (from (goal.at.returns c).After-highest-j) (to (goal.at.returns c).After-highest-j) _ _ c.opened-d.ensures c.first_number-x.ensures (search rules)
+    ∙ under_miss a.state a.n (buckets_below a.n) j (from (goal.at.returns c).After-highest-j) (to (goal.at.returns c).After-highest-j) _ _ (rw b at c.opened-d.ensures) (rw b at c.first_number-x.ensures) (search rules)
     ∙ sym (prev_width a.state a.n (search rules) (search rules))

@@ -1,12 +1,19 @@
 -- `orders::scans::output_at` meets its contract.
 -- Assumes nothing.
-use mathlib.Core.Path.{ap}
-use Rattle.layers.specs.Calls.{told}
-use Rattle.orders.proofs.ScanLaws.{output_made, output_not}
+use Rattle.std.proofs.Common.{◌≡◌, Ok, ◌∙◌, sym, ap, arith, is_ok}
+use Rattle.answers.proofs.Tolds.{told_ok}
+use Rattle.layers.specs.Layer.{layer}
+use Rattle.layers.proofs.CallLaws.{apply_in}
 use Rattle.orders.proofs.scans.output_at.Goals as goal
+use Rattle.orders.proofs.scans.output_at.Goals.{After-layer_apply}
 
-pub returns-in-Output : goal.returns-in-Output
-returns-in-Output c = output_made _ _ _ _ _ c.requires.0 c.requires.1 c.layer_apply.ensures (ap told c.in-Output.is)
+applied : (c : After-layer_apply) → c.layer_apply.result ≡ Ok (layer c.args.i c.args.key c.args.x)
+applied c =
+    let a = c.args in
+    told_ok _ _ (c.layer_apply.ensures ∙ apply_in a.i a.key a.x (omega (arith, c.requires.0)) c.requires.1)
 
-pub returns-in-Refused : goal.returns-in-Refused
-returns-in-Refused c = output_not _ _ _ _ _ c.requires.0 c.requires.1 c.layer_apply.ensures (ap told c.in-Refused.is)
+pub unwrap-requires : goal.unwrap-requires
+unwrap-requires c = ap is_ok (applied (goal.at.unwrap-requires c).After-layer_apply)
+
+pub returns : goal.returns
+returns c = let e = c.unwrap.ensures in let f = applied (goal.at.returns c).After-layer_apply in cc

@@ -7,25 +7,30 @@ use Rattle.orders.specs.OrderCalls.{within}
 use Rattle.orders.proofs.LogLaws.{layer_in}
 use Rattle.orders.proofs.NextLaws.{next_unfit, next_above, next_empty, next_first}
 use Rattle.orders.proofs.consistent_permutation.ConsistentPermutation.next.Goals as goal
-use Rattle.orders.proofs.consistent_permutation.ConsistentPermutation.next.Goals.{Else-not-within_sizes}
+use Rattle.orders.proofs.consistent_permutation.ConsistentPermutation.next.Goals.{Else-not-fits}
 
 -- no counter is above its size, once that is tested
-fit : (c : Else-not-within_sizes) → within c.args.self.counters ≡ true
-fit c = sym c.within_sizes.ensures ∙ c.if-not-within_sizes.false
+fit : (c : Else-not-fits) → within c.args.self.now.counters ≡ true
+fit c = sym c.fits.ensures ∙ c.if-not-fits.false
 
-pub returns-then-not-within_sizes : goal.returns-then-not-within_sizes
-returns-then-not-within_sizes c =
-    c.refused.ensures ∙ sym (next_unfit c.args.self (sym c.within_sizes.ensures ∙ c.if-not-within_sizes.true))
+pub returns-then-not-fits : goal.returns-then-not-fits
+returns-then-not-fits c = sym (next_unfit c.args.self.now (sym c.fits.ensures ∙ c.if-not-fits.true))
 
-pub returns-then-n-gt-N_LIMIT : goal.returns-then-n-gt-N_LIMIT
-returns-then-n-gt-N_LIMIT c = c.refused-then-n-gt-N_LIMIT.ensures ∙ sym (next_above c.args.self (fit (goal.at.returns-then-n-gt-N_LIMIT c).Else-not-within_sizes) c.if-n-gt-N_LIMIT.true)
+pub returns-then-self-gt-N_LIMIT : goal.returns-then-self-gt-N_LIMIT
+returns-then-self-gt-N_LIMIT c = sym (next_above c.args.self.now (fit (goal.at.returns-then-self-gt-N_LIMIT c).Else-not-fits) c.if-self-gt-N_LIMIT.true)
 
-pub returns-then-n-eq0 : goal.returns-then-n-eq0
-returns-then-n-eq0 c = c.ended.ensures ∙ sym (next_empty c.args.self (fit (goal.at.returns-then-n-eq0 c).Else-not-within_sizes) c.if-n-eq0.true)
+pub returns-then-self-eq0 : goal.returns-then-self-eq0
+returns-then-self-eq0 c = sym (next_empty c.args.self.now (fit (goal.at.returns-then-self-eq0 c).Else-not-fits) c.if-self-eq0.true)
 
 pub first-requires : goal.first-requires
-first-requires c = (c.layer_of.ensures, omega (arith, layer_in c.args.self.n c.if-n-gt-N_LIMIT.false, c.layer_of.ensures), omega arith, omega arith, fit (goal.at.first-requires c).Else-not-within_sizes)
+first-requires c = record {
+  layer = c.layer_of.ensures;
+  low = omega (arith, layer_in c.args.self.now.n c.if-self-gt-N_LIMIT.false, c.layer_of.ensures);
+  some = omega arith;
+  limit = omega arith;
+  fit = fit (goal.at.first-requires c).Else-not-fits;
+}
 
 pub returns : goal.returns
 returns c =
-    c.first.ensures ∙ sym (next_first c.args.self _ (fit (goal.at.returns c).Else-not-within_sizes) c.if-n-gt-N_LIMIT.false c.if-n-eq0.false c.layer_of.ensures)
+    c.first.ensures ∙ sym (next_first c.args.self.now _ (fit (goal.at.returns c).Else-not-fits) c.if-self-gt-N_LIMIT.false c.if-self-eq0.false c.layer_of.ensures)

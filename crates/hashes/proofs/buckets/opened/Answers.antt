@@ -1,6 +1,0 @@
--- `hashes::buckets::opened` meets its contract.
--- Assumes nothing.
-use Rattle.hashes.proofs.buckets.opened.Goals as goal
-
-pub returns : goal.returns
-returns c = rw (c.drawn.ensures, c.fed.ensures, c.power.ensures)
