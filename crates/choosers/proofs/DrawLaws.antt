@@ -2,14 +2,13 @@
 -- Assumes nothing.
 use mathlib.Core.Path.{◌≡◌, ap, ◌∙◌}
 use mathlib.Core.Option.{some}
-use Prim.Native.Nat.{ℕ, ◌+◌, ◌-◌, ◌^◌, ◌≤◌, ◌<◌}
+use Prim.Native.Nat.{ℕ, ◌-◌, ◌^◌, ◌≤◌, ◌<◌}
 use native.Mathlib.Omega.{arith}
 use Rattle.lists.specs.Told.{says}
 use Rattle.hashes.specs.Hashes.{feed}
 use Rattle.hashes.specs.Calls.{prev_number, prev_call}
 use Rattle.hashes.proofs.PrevLaws.{prev_is}
 use Rattle.hashes.proofs.CallLaws.{limited_in}
-use Rattle.choosers.specs.Choosers.{g}
 
 -- a chooser asks only for n above 0 and within the limit: there is a hash
 pub prev_told : (s n : ℕ) → 0 < n → n ≤ 2 ^ 62 → prev_call s n ≡ says (some (prev_number s n))

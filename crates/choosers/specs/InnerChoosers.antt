@@ -33,7 +33,3 @@ Owns s l k n = (i : ℕ) → i < k → get_or l i 0 ≡ g s i n
 -- each of them is that, or is m
 abbrev pub OwnOr : ℕ → List ℕ → ℕ → ℕ → Type 0
 OwnOr s l k m = (i : ℕ) → i < k → (get_or l i 0 ≡ m) ⊎ (get_or l i 0 ≡ g s i m)
-
--- from place k on nothing changed
-abbrev pub SameFrom : ℕ → List ℕ → List ℕ → Type 0
-SameFrom k before now = drop k now ≡ drop k before

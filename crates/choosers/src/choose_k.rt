@@ -45,7 +45,7 @@ impl ConsistentChooseKHasher {
         if (list.len() as u64) < k {
             return Err(Refusal::ShortMemory);
         }
-        samples::choose(state, n, k as usize, list);
+        samples::choose(state, n, &mut list[..k as usize]);
         Ok(ConsistentChooseKHasher { state, n, k })
     }
 
@@ -53,10 +53,7 @@ impl ConsistentChooseKHasher {
     pub fn fits(self, list: &[u64]) -> bool
         ensures { result ≡ fitting self list.now }
     {
-        if (list.len() as u64) < self.k {
-            return false;
-        }
-        samples::rising(list, self.k as usize, self.n)
+        self.k <= list.len() as u64 && samples::rising(&list[..self.k as usize], self.n)
     }
 
     // The tests that every call on a record begins with.

@@ -1,22 +1,17 @@
 // Samples in a lent list: whether they ascend, one more of them, their lowering, and all k at once.
 ghost use Rattle.std.specs.Prelude.{◌≡◌, ◌⊎◌, ◌^◌, ◌<◌, ◌≤◌, max, length};
-ghost use Rattle.lists.specs.Lists.{written};
 ghost use Rattle.choosers.specs.Choosers.{g, largest_g, S, moved, larger, lower_at};
 ghost use Rattle.choosers.specs.ChooserCalls.{ascends};
-ghost use Rattle.choosers.specs.InnerChoosers.{grow_in, Within, OwnOr, Owns, SameFrom};
+ghost use Rattle.choosers.specs.InnerChoosers.{grow_in, Within, OwnOr, Owns};
 
 use hashes::ConsistentHasher;
 
-// Whether the first k samples ascend strictly below n.
-pub(crate) fn rising(list: &[u64], k: usize, n: u64) -> bool
-    requires { k ≤ length list.now }
-    ensures { result ≡ ascends list.now k n }
+// Whether the samples ascend strictly below n.
+pub(crate) fn rising(samples: &[u64], n: u64) -> bool
+    ensures { result ≡ ascends samples.now (length samples.now) n }
 {
     let mut bound = n;
-    let mut i = k;
-    while 0 < i {
-        i -= 1;
-        let x = list[i];
+    for &x in samples.iter().rev() {
         if bound <= x {
             return false;
         }
@@ -34,16 +29,6 @@ pub(crate) fn get_sample(state: u64, i: u64, n: u64) -> u64
     i + hasher.prev(n - i).unwrap().unwrap()
 }
 
-// The larger of two numbers.
-fn larger_of(a: u64, b: u64) -> u64
-    ensures { result ≡ max a b }
-{
-    if a < b {
-        return b;
-    }
-    a
-}
-
 // What the sample at index i becomes when it is lowered from m.
 fn larger_at(state: u64, list: &[u64], i: usize, m: u64) -> u64
     requires { (i < length list.now) × (i < m) × (m ≤ 2 ^ 62) }
@@ -53,7 +38,7 @@ fn larger_at(state: u64, list: &[u64], i: usize, m: u64) -> u64
     if i == 0 {
         return x;
     }
-    larger_of(list[i - 1], x)
+    x.max(list[i - 1])
 }
 
 // Lowers the first k samples from m, and answers the index.
@@ -94,60 +79,30 @@ pub(crate) fn grow(state: u64, n: u64, k: usize, list: &mut [u64]) -> usize
     i
 }
 
-// g(0, n), g(1, n), .. in the first k places, and the largest of them.
-fn first_samples(state: u64, n: u64, k: usize, list: &mut [u64]) -> u64
-    requires { (k ≤ length list.old) × (k ≤ n) × (n ≤ 2 ^ 62) }
-    ensures { (result ≡ largest_g state k n) × Owns state list.new k n × SameFrom k list.old list.new }
+// Each place i, which holds g(i, m) already or m, comes to hold g(i, m). The answer is the largest of them.
+fn refresh(state: u64, m: u64, list: &mut [u64]) -> u64
+    requires { (length list.old ≤ m) × (m ≤ 2 ^ 62) × OwnOr state list.old (length list.old) m }
+    ensures { (result ≡ largest_g state (length list.old) m) × Owns state list.new (length list.old) m }
 {
-    let mut high = 0;
-    let mut i = 0;
-    while i < k {
-        let x = get_sample(state, i as u64, n);
-        list[i] = x;
-        high = larger_of(high, x);
-        i += 1;
+    let mut high: u64 = 0;
+    for (i, x) in list.iter_mut().enumerate() {
+        if *x == m {
+            *x = get_sample(state, i as u64, m);
+        }
+        high = high.max(*x);
     }
     high
 }
 
-// g(i, m), where x is that or m itself.
-fn refreshed(state: u64, i: u64, x: u64, m: u64) -> u64
-    requires { (i < m) × (m ≤ 2 ^ 62) × ((x ≡ m) ⊎ (x ≡ g state i m)) }
-    ensures { result ≡ g state i m }
+// S(k, n) in the k places of a list, from the last down.
+pub(crate) fn choose(state: u64, n: u64, list: &mut [u64])
+    requires { (length list.old ≤ n) × (n ≤ 2 ^ 62) }
+    ensures { list.new ≡ S state (length list.old) n }
 {
-    if x == m {
-        return get_sample(state, i, m);
-    }
-    x
-}
-
-// g(0, m), g(1, m), .. in the first k places, of which each is that already or is m. The answer is the largest of them.
-fn next_samples(state: u64, m: u64, k: usize, list: &mut [u64]) -> u64
-    requires { (k ≤ length list.old) × (k ≤ m) × (m ≤ 2 ^ 62) × OwnOr state list.old k m }
-    ensures { (result ≡ largest_g state k m) × Owns state list.new k m × SameFrom k list.old list.new }
-{
-    let mut high = 0;
-    let mut i = 0;
-    while i < k {
-        let x = refreshed(state, i as u64, list[i], m);
-        list[i] = x;
-        high = larger_of(high, x);
-        i += 1;
-    }
-    high
-}
-
-// S(k, n) in the first k places, from the last down.
-pub(crate) fn choose(state: u64, n: u64, k: usize, list: &mut [u64])
-    requires { (k ≤ length list.old) × (k ≤ n) × (n ≤ 2 ^ 62) }
-    ensures { list.new ≡ written (S state k n) list.old }
-{
-    let mut high = first_samples(state, n, k, list);
-    let mut i = k;
-    while 0 < i {
-        i -= 1;
-        let m = high;
-        high = next_samples(state, m, i, list);
-        list[i] = m;
+    list.fill(n);
+    let mut last = n;
+    for i in (0..list.len()).rev() {
+        last = refresh(state, last, &mut list[..=i]);
+        list[i] = last;
     }
 }

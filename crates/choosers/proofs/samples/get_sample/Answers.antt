@@ -1,6 +1,6 @@
 -- `choosers::samples::get_sample` meets its contract.
 -- Assumes nothing.
-use Rattle.std.proofs.Common.{◌≡◌, ◌+◌, ◌-◌, Ok, Some, is_ok, is_some, sym, ap, ◌∙◌, ℕ, arith, rules}
+use Rattle.std.proofs.Common.{◌≡◌, ◌+◌, ◌-◌, Ok, Some, is_ok, is_some, ap, ◌∙◌, ℕ, arith, rules}
 use Rattle.answers.proofs.Tolds.{told_some}
 use Rattle.hashes.specs.Hashes.{feed}
 use Rattle.hashes.specs.Calls.{prev_number, prev_call}

@@ -13,4 +13,4 @@ returns-then-i-eq0 c =
 pub returns : goal.returns
 returns c =
     let a = c.args in
-    rw (c.larger_of.ensures, c.get_sample-x.ensures) (sym (larger_later a.state a.i a.list.now a.m (omega arith)))
+    omega (arith, c.max.ensures, c.get_sample-x.ensures, larger_later a.state a.i a.list.now a.m (omega arith))
