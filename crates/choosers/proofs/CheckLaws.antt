@@ -96,6 +96,11 @@ module _ (c : ConsistentChooseKHasher) (l : List ℕ) where
     pub sample_ge : (i : ℕ) → i < c.k → i ≤ get_or l i 0
     sample_ge i h = rw (get_or-take c.k l i 0 h) at (rises_ge (samples_of c l) c.n p.rising i (omega (arith, length-take-le c.k l p.within)))
 
+    -- they ascend
+    pub sample_less : (i j : ℕ) → i < j → j < c.k → get_or l i 0 < get_or l j 0
+    sample_less i j h q =
+        rw (← get_or-take c.k l i 0 (omega arith), ← get_or-take c.k l j 0 q) (p.rising.rises i j h (omega (arith, length-take-le c.k l p.within)))
+
     pub samples_within : c.n ≤ 2 ^ 62 → Within l c.k
     samples_within h i q = omega (arith, sample_below i q)
 

@@ -5,4 +5,4 @@ pub mod Slots
 pub mod SlotCalls
 pub mod InnerChoosers
 pub mod InnerSlots
-pub mod InnerLookups
+pub mod InnerPlaces

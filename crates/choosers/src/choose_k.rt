@@ -7,6 +7,7 @@ ghost use Rattle.choosers.specs.ChooserCalls.{new_call, after_new, new_with_k_ca
 ghost use Rattle.choosers.specs.InnerChoosers.{tests, grown};
 
 use crate::samples;
+use crate::samples::Alone;
 use answers::Refusal;
 use hashes::ConsistentHasher;
 
@@ -79,7 +80,7 @@ impl ConsistentChooseKHasher {
         if list.len() <= k {
             return Err(Refusal::ShortMemory);
         }
-        let i = samples::grow(self.state, self.n, k, list);
+        let i = samples::grow::<Alone>(self.state, self.n, &mut list[..=k]);
         self.k += 1;
         Ok(i)
     }
@@ -124,7 +125,7 @@ impl ConsistentChooseKHasher {
             return Err(Refusal::CannotShrink);
         }
         self.n = last;
-        Ok(samples::lower(self.state, list, k, last) as u64)
+        Ok(samples::lower::<Alone>(self.state, &mut list[..k], last) as u64)
     }
 
     pub fn n(self) -> u64

@@ -27,7 +27,7 @@ pub fn first_active(count: u32, table: &[u8], state: u64, scratch: &mut [u64]) -
     ensures { told_looked result ≡ look_up count table.now state (length scratch.old) }
 {
     for k in 0..scratch.len().min(count as usize) {
-        let x = lookups::next_number(state, count as u64, k, scratch);
+        let x = lookups::next_number(state, count as u64, &mut scratch[..=k]);
         if table.get(x as usize) == Some(&1) {
             return Some(x as u32);
         }

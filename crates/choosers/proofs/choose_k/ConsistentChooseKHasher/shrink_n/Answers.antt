@@ -1,10 +1,14 @@
 -- `choosers::choose_k::ConsistentChooseKHasher::shrink_n` meets its contract.
 -- Assumes nothing.
 use Rattle.std.proofs.lemmas.Result.{err_from_is_err_and}
+use mathlib.Core.Path.{◌≡◌}
 use Prim.Native.Nat.{◌-◌}
+use lib.ListN.{length, get_or, take}
+use lib.Seq.{length-take-le}
 use native.Mathlib.Omega.{arith}
 use Rattle.choosers.specs.ChooserCalls.{shrink_call}
-use Rattle.choosers.proofs.CheckLaws.{fits_parts, sample_below, samples_within}
+use Rattle.choosers.proofs.CheckLaws.{fits_parts, sample_less, sample_below}
+use Rattle.choosers.proofs.HoldingLaws.{alone_rises, alone_under, lower_whole}
 use Rattle.choosers.proofs.ChooserCallLaws.{tests_refuse, passed, shrink_none, shrink_all, shrink_low, shrink_done}
 use Rattle.choosers.proofs.ConsistentLaws.{shrink_both}
 use Rattle.choosers.proofs.choose_k.ConsistentChooseKHasher.shrink_n.Goals as goal
@@ -44,12 +48,25 @@ returns-then-last-self c =
 
 pub lower-requires : goal.lower-requires
 lower-requires c =
-    let p = passed _ _ c.in_ok-test.ensures in
-    let parts = fits_parts _ _ p.0 in
-    (parts.within, c.if-last-self.false, omega (arith, p.1, sample_below _ _ parts (c.args.self.now.k - 1) (omega arith)), samples_within _ _ parts p.1)
+    let l = c.args.list.now in
+    let k = c.args.self.now.k in
+    let last = get_or l (k - 1) 0 in
+    let t = passed _ _ c.in_ok-test.ensures in
+    let p = fits_parts _ _ t.0 in
+    let long : length (take k l) ≡ k = length-take-le k l p.within in
+    record {
+      few = omega (arith, long);
+      small = omega (arith, t.1, sample_below _ _ p (k - 1) (omega arith));
+      kept = λ i q. tt;
+      rises = λ i j h q. alone_rises c.args.self.now.state k l k (omega arith) (sample_less _ _ p) i j h (omega (arith, long, q));
+      under = λ i q. alone_under c.args.self.now.state k l k last (omega arith) (λ i q. sample_less _ _ p i (k - 1) (omega arith) (omega arith)) i (omega (arith, long, q));
+    }
 
 pub returns : goal.returns
 returns c =
+    let l = c.args.list.now in
+    let k = c.args.self.now.k in
     let p = passed _ _ c.in_ok-test.ensures in
-    let both = shrink_both _ _ _ (shrink_done _ _ p.0 p.1 c.if-k-eq0.false c.if-self.false _ _ c.if-last-self.false c.lower.ensures) in
+    let e = lower_whole c.args.self.now.state k l (fits_parts _ _ p.0).within (get_or l (k - 1) 0) c.lower.new.list c.lower.result c.lower.ensures.lowered in
+    let both = shrink_both _ _ _ (shrink_done _ _ p.0 p.1 c.if-k-eq0.false c.if-self.false _ _ c.if-last-self.false e) in
     record { answer = both.0; consistent = both.1 }
