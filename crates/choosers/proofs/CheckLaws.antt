@@ -3,7 +3,7 @@
 use mathlib.Core.Path.{◌≡◌, refl, sym, ap, ◌∙◌}
 use mathlib.Core.Bool.{Bool, true, false, ◌&&◌}
 use mathlib.Core.List.{List, [], ◌∷◌, ◌++◌}
-use Prim.Native.Nat.{ℕ, zero, suc, ◌^◌, ◌≤◌, ◌<◌}
+use Prim.Native.Nat.{ℕ, zero, suc, ◌≤◌, ◌<◌}
 use native.Mathlib.Omega.{arith}
 use borrow.Author.Tests.{lt-ltb, le-ltb, le-leb, lt-leb, leb-true, ltb-true}
 use lib.Dec.{ltb, leb}
@@ -13,7 +13,6 @@ use Rattle.lists.proofs.Keeping.{both}
 use Rattle.lists.proofs.Ascending.{Ascending, length_snoc, ascending_nil, ascending_snoc, ascending_last, ascending_init, rises_ge}
 use Rattle.choosers.specs.declared.choose_k.ConsistentChooseKHasher.{ConsistentChooseKHasher}
 use Rattle.choosers.specs.ChooserCalls.{samples_of, ascends, fitting}
-use Rattle.choosers.specs.InnerChoosers.{Within}
 
 -- ---- a turn of the pass, at the last of the samples that are left
 
@@ -100,9 +99,6 @@ module _ (c : ConsistentChooseKHasher) (l : List ℕ) where
     pub sample_less : (i j : ℕ) → i < j → j < c.k → get_or l i 0 < get_or l j 0
     sample_less i j h q =
         rw (← get_or-take c.k l i 0 (omega arith), ← get_or-take c.k l j 0 q) (p.rising.rises i j h (omega (arith, length-take-le c.k l p.within)))
-
-    pub samples_within : c.n ≤ 2 ^ 62 → Within l c.k
-    samples_within h i q = omega (arith, sample_below i q)
 
 -- ---- samples that ascend pass the test
 

@@ -1,6 +1,6 @@
 -- What private functions of the choosers leave. No public promise cites it.
 -- Assumes nothing.
-use Rattle.std.specs.Prelude.{◌≡◌, ◌⊎◌, cond, List, ◌++◌, ℕ, suc, ◌^◌, ltb, ◌<◌, ◌≤◌, get_or, take, drop}
+use Rattle.std.specs.Prelude.{◌≡◌, ◌⊎◌, cond, List, ◌++◌, ℕ, suc, ◌^◌, ltb, ◌<◌, get_or, take, drop}
 use Rattle.lists.specs.Told.{Told, refusal, says}
 use Rattle.choosers.specs.declared.choose_k.ConsistentChooseKHasher.{ConsistentChooseKHasher}
 use Rattle.choosers.specs.Choosers.{g, Moved, moved, grow}
@@ -21,10 +21,6 @@ unfoldable pub grow_in : ℕ → ℕ → List ℕ → ℕ → Moved
 grow_in s k l n =
     let m = grow s (take k l) n in
     moved (m.samples ++ drop (suc k) l) m.index
-
--- none of the first k entries is above the limit
-abbrev pub Within : List ℕ → ℕ → Type 0
-Within l k = (i : ℕ) → i < k → get_or l i 0 ≤ 2 ^ 62
 
 -- the first k entries are g(0, n), g(1, n), ..
 abbrev pub Owns : ℕ → List ℕ → ℕ → ℕ → Type 0
