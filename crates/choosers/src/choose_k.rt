@@ -117,15 +117,13 @@ impl ConsistentChooseKHasher {
     {
         self.test(list)?;
         let k = self.k as usize;
-        if k == 0 || self.n <= self.k {
+        if k == 0 || self.n <= self.k || list[k - 1] < self.k {
             return Err(Refusal::CannotShrink);
         }
         let last = list[k - 1];
-        if last < self.k {
-            return Err(Refusal::CannotShrink);
-        }
+        let i = samples::lower::<Alone>(self.state, &mut list[..k], last);
         self.n = last;
-        Ok(samples::lower::<Alone>(self.state, &mut list[..k], last) as u64)
+        Ok(i as u64)
     }
 
     pub fn n(self) -> u64

@@ -21,7 +21,7 @@ pub(crate) fn rising(samples: &[u64], n: u64) -> bool
     true
 }
 
-// g(i, n).
+// g(i, n). A type for an n of at most 2^62 would be made and opened again at each call that asks for one, so it is a `requires`.
 pub(crate) fn get_sample(state: u64, i: u64, n: u64) -> u64
     requires { (i < n) × (n ≤ 2 ^ 62) }
     ensures { result ≡ g state i n }

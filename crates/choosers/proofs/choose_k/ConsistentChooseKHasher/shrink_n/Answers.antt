@@ -12,7 +12,7 @@ use Rattle.choosers.proofs.HoldingLaws.{alone_rises, alone_under, lower_whole}
 use Rattle.choosers.proofs.ChooserCallLaws.{tests_refuse, passed, shrink_none, shrink_all, shrink_low, shrink_done}
 use Rattle.choosers.proofs.ConsistentLaws.{shrink_both}
 use Rattle.choosers.proofs.choose_k.ConsistentChooseKHasher.shrink_n.Goals as goal
-use Rattle.choosers.proofs.choose_k.ConsistentChooseKHasher.shrink_n.Goals.{then-k-eq0-via-then-k-eq0, then-k-eq0-via-else-k-eq0+then-self}
+use Rattle.choosers.proofs.choose_k.ConsistentChooseKHasher.shrink_n.Goals.{then-k-eq0-via-then-k-eq0, then-k-eq0-via-else-k-eq0+then-self, then-k-eq0-via-else-k-eq0+else-self+then-list-k}
 
 pub returns-in_err-test : goal.returns-in_err-test
 unfolding shrink_call
@@ -27,6 +27,7 @@ returns-then-k-eq0 c =
     let both = shrink_both _ _ _ (elim c.then-k-eq0.branch [
       | then-k-eq0-via-then-k-eq0 w ↦ shrink_none _ _ p.0 p.1 w.if-k-eq0.true
       | then-k-eq0-via-else-k-eq0+then-self w ↦ shrink_all _ _ p.0 p.1 w.if-k-eq0.false w.if-self.true
+      | then-k-eq0-via-else-k-eq0+else-self+then-list-k w ↦ shrink_low _ _ p.0 p.1 w.if-k-eq0.false w.if-self.false w.if-list-k.true
     ]) in
     record { answer = both.0; consistent = both.1 }
 
@@ -40,14 +41,8 @@ bounds-list-k c =
     let p = passed _ _ c.in_ok-test.ensures in
     omega (arith, (fits_parts _ _ p.0).within)
 
-pub returns-then-last-self : goal.returns-then-last-self
-returns-then-last-self c =
-    let p = passed _ _ c.in_ok-test.ensures in
-    let both = shrink_both _ _ _ (shrink_low _ _ p.0 p.1 c.if-k-eq0.false c.if-self.false c.if-last-self.true) in
-    record { answer = both.0; consistent = both.1 }
-
-pub lower-requires : goal.lower-requires
-lower-requires c =
+pub lower-i-requires : goal.lower-i-requires
+lower-i-requires c =
     let l = c.args.list.now in
     let k = c.args.self.now.k in
     let last = get_or l (k - 1) 0 in
@@ -67,6 +62,6 @@ returns c =
     let l = c.args.list.now in
     let k = c.args.self.now.k in
     let p = passed _ _ c.in_ok-test.ensures in
-    let e = lower_whole c.args.self.now.state k l (fits_parts _ _ p.0).within (get_or l (k - 1) 0) c.lower.new.list c.lower.result c.lower.ensures.lowered in
-    let both = shrink_both _ _ _ (shrink_done _ _ p.0 p.1 c.if-k-eq0.false c.if-self.false _ _ c.if-last-self.false e) in
+    let e = lower_whole c.args.self.now.state k l (fits_parts _ _ p.0).within (get_or l (k - 1) 0) c.lower-i.new.list c.lower-i.result c.lower-i.ensures.lowered in
+    let both = shrink_both _ _ _ (shrink_done _ _ p.0 p.1 c.if-k-eq0.false c.if-self.false _ _ c.if-list-k.false e) in
     record { answer = both.0; consistent = both.1 }
