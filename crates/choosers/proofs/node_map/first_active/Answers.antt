@@ -4,7 +4,7 @@ use mathlib.Core.Path.{◌≡◌, refl, sym, ap, ◌∙◌}
 use Prim.Native.Nat.{ℕ, ◌+◌}
 use native.Mathlib.Omega.{arith}
 use lib.Dec.{eqb}
-use lib.ListN.{length, get_or, take, drop, length-append, length-drop}
+use lib.ListN.{get_or, drop, length-append, length-drop}
 use lib.Seq.{length-take-le}
 use Rattle.choosers.specs.Choosers.{S, Q}
 use Rattle.choosers.proofs.OrderLaws.{Q_below}
@@ -22,16 +22,8 @@ pub loop-k-init : goal.loop-k-init
 unfolding S
 loop-k-init c = (refl, look_first _ _ _ _, (refl, λ i p. absurd (omega arith)))
 
-pub next_number-x-requires : goal.next_number-x-requires
-next_number-x-requires c =
-    let k = c.loop-k.k in
-    let l = c.loop-k.scratch in
-    let long : length (take (k + 1) l) ≡ k + 1 = length-take-le (k + 1) l (omega arith) in
-    record {
-      some = omega (arith, long);
-      few = (omega (arith, long), omega (arith, c.ranges));
-      stands = stands_front _ _ k l (omega arith) c.loop-k.invariant.2;
-    }
+pub next_number-x-requires-clause-stands : goal.next_number-x-requires-clause-stands
+next_number-x-requires-clause-stands c = stands_front _ _ c.loop-k.k c.loop-k.scratch (omega arith) c.loop-k.invariant.2
 
 -- the number that is looked at
 number : (c : After-next_number-x) → c.next_number-x.result ≡ get_or (Q c.args.state c.args.count) c.loop-k.k 0

@@ -4,31 +4,16 @@ use mathlib.Core.Path.{◌≡◌, ap, ◌∙◌}
 use Prim.Native.Nat.{ℕ, suc, ◌-◌, ◌+◌}
 use native.Mathlib.Omega.{arith}
 use native.Mathlib.Numerals.{add-one}
-use lib.ListN.{length, take, replicate}
-use lib.Seq.{length-take-le, get_or-take}
+use lib.ListN.{length, take}
+use lib.Seq.{length-take-le}
 use Rattle.choosers.specs.Choosers.{S}
-use Rattle.choosers.proofs.ChooseLaws.{choosing_first, choosing_done, choosing_at, choosing_next}
+use Rattle.choosers.proofs.ChooseLaws.{choosing_done, choosing_at, choosing_next}
 use Rattle.choosers.proofs.samples.choose.Goals as goal
 use Rattle.choosers.proofs.samples.choose.Goals.{In-loop-i}
 
 -- the places that a turn looks at
 turned : (c : In-loop-i) → length (take (c.loop-i.i - 1 + 1) c.loop-i.list) ≡ suc (c.loop-i.i - 1)
 turned c = length-take-le (c.loop-i.i - 1 + 1) c.loop-i.list (omega arith) ∙ add-one (c.loop-i.i - 1)
-
-pub loop-i-init : goal.loop-i-init
-loop-i-init c =
-    let f = c.fill.ensures in
-    choosing_first _ _ _ _ (omega (arith, f.len)) (f.after (λ y e. e) ∙ ap (λ (k : ℕ). replicate k c.args.n) (omega (arith, f.len)))
-
-pub refresh-last-requires : goal.refresh-last-requires
-refresh-last-requires c =
-    let l = c.loop-i in
-    let v = l.invariant in
-    let e = turned (goal.at.refresh-last-requires c).In-loop-i in (
-      omega (arith, e, v.few),
-      omega (arith, v.small),
-      λ j p. rw (get_or-take (l.i - 1 + 1) l.list j 0 (omega (arith, p, e))) (v.owns j (omega (arith, p, e))),
-    )
 
 pub loop-i-preserved : goal.loop-i-preserved
 loop-i-preserved c =

@@ -1,6 +1,6 @@
 -- `choosers::samples::lower` meets its contract.
 -- Assumes nothing.
-use mathlib.Core.Path.{◌≡◌, refl, sym, ap, ◌∙◌}
+use mathlib.Core.Path.{◌≡◌, sym, ap, ◌∙◌}
 use mathlib.Core.List.{map}
 use Prim.Native.Nat.{◌+◌, ◌-◌, ◌<◌, ◌≤◌, max}
 use native.Mathlib.Omega.{arith}
@@ -31,9 +31,6 @@ later g c h =
 seen : (g : Over) (c : In-loop-i g) → get_or (map g.P.Places.sample c.loop-i.list) (c.loop-i.i - 1) 0 ≡ g.P.Places.sample (get_or c.loop-i.list (c.loop-i.i - 1) 0)
 seen g c = sample_at g.P.Places.sample c.loop-i.list (c.loop-i.i - 1) (omega arith)
 
-pub loop-i-init : goal.loop-i-init
-loop-i-init g c = let r = c.requires in (r.few, r.small, refl, r.kept, r.rises, r.under)
-
 pub returns-then-sample-m-clause-lowered : goal.returns-then-sample-m-clause-lowered
 returns-then-sample-m-clause-lowered g c =
     let l = c.loop-i in
@@ -41,11 +38,6 @@ returns-then-sample-m-clause-lowered g c =
     let e : l.i - 1 + 1 ≡ l.i = omega arith in
     ap (moved (map g.P.Places.sample l.list)) e
     ∙ sym (l.invariant.2 ∙ turn_stop c.args.state l.i (map g.P.Places.sample l.list) l.m (omega arith) (omega (arith, s, c.sample.ensures)))
-
-pub own-v-requires : goal.own-v-requires
-own-v-requires g c =
-    let l = c.loop-i in
-    (omega arith, omega (arith, c.sample.ensures), l.invariant.1, l.invariant.3 (l.i - 1) (omega arith))
 
 pub place-requires : goal.place-requires
 place-requires g c =

@@ -29,8 +29,3 @@ loop-i-preserved c =
       owns_more a.state l.list l.i a.m c.if-x-m.x (omega arith) l.invariant.1 e,
       λ j p. own_or_set a.state l.list (length l.list) l.i a.m c.if-x-m.x (omega arith) l.invariant.2 e j (omega (arith, p, length-set l.list l.i c.if-x-m.x)),
     )
-
-pub returns : goal.returns
-returns c =
-    let e : c.loop-i.i ≡ length c.args.list.now = omega arith in
-    (rw (← e) c.loop-i.invariant.0, rw (← e) c.loop-i.invariant.1)

