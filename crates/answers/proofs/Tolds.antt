@@ -1,10 +1,11 @@
 -- Back from what a call said to what it answered.
 -- Assumes nothing.
-use Rattle.std.proofs.Common.{◌≡◌, ℕ, Result, Ok, Err, Option, Some, None, arith}
+use Rattle.std.proofs.Common.{◌≡◌, ℕ, cond, eqb, Result, Ok, Err, Option, Some, None, refl, ap, arith}
 use Rattle.std.proofs.Math.Option as maybe
 use Rattle.lists.specs.Told.{Told, refusal, says}
 use Rattle.answers.specs.declared.Refusal.{Refusal}
-use Rattle.answers.specs.Refusals.{told, optional, told_option}
+use Rattle.answers.specs.declared.Refusal.TheVariants.{NAboveLimit, KIsZero, KAboveN, ShortMemory, CannotShrink, AllChosen, NumbersWait, TopLayer, NoSlotLeft, SlotNotActive, NoneActive, Misfit}
+use Rattle.answers.specs.Refusals.{number, told, optional, told_option}
 
 pub told_ok : {A : Type 0} (r : Result A Refusal) (x : A) → told r ≡ says x → r ≡ Ok x
 told_ok (Ok y) x e = let q : y ≡ x = cc in cc
@@ -18,3 +19,43 @@ pub told_some : {A : Type 0} (r : Result (Option A) Refusal) (x : A) → told_op
 told_some (Ok (Some y)) x e = let q : y ≡ x = cc in cc
 told_some (Ok None) x e = let z : ◌≡◌ {A = ℕ} 0 1 = cc in absurd (omega arith)
 told_some (Err w) x e = let z : ◌≡◌ {A = ℕ} 0 1 = cc in absurd (omega arith)
+
+-- ---- a refusal by its number, and an answer by what it tells
+
+unfoldable pub refusal_of : ℕ → Refusal
+refusal_of n =
+    cond (eqb n 1) NAboveLimit
+    (cond (eqb n 2) KIsZero
+    (cond (eqb n 3) KAboveN
+    (cond (eqb n 4) ShortMemory
+    (cond (eqb n 5) CannotShrink
+    (cond (eqb n 6) AllChosen
+    (cond (eqb n 7) NumbersWait
+    (cond (eqb n 8) TopLayer
+    (cond (eqb n 9) NoSlotLeft
+    (cond (eqb n 10) SlotNotActive
+    (cond (eqb n 11) NoneActive Misfit))))))))))
+
+pub refusal_back : (w : Refusal) → refusal_of (number w) ≡ w
+unfolding refusal_of
+refusal_back NAboveLimit = refl
+refusal_back KIsZero = refl
+refusal_back KAboveN = refl
+refusal_back ShortMemory = refl
+refusal_back CannotShrink = refl
+refusal_back AllChosen = refl
+refusal_back NumbersWait = refl
+refusal_back TopLayer = refl
+refusal_back NoSlotLeft = refl
+refusal_back SlotNotActive = refl
+refusal_back NoneActive = refl
+refusal_back Misfit = refl
+
+unfoldable pub back : {A : Type 0} → Told A → Result A Refusal
+back (says x) = Ok x
+back (refusal n) = Err (refusal_of n)
+
+pub back_told : {A : Type 0} (r : Result A Refusal) → back (told r) ≡ r
+unfolding back
+back_told (Ok x) = refl
+back_told (Err w) = ap Err (refusal_back w)

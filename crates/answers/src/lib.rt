@@ -46,14 +46,6 @@ impl Refusal {
     }
 }
 
-impl From<Refusal> for u64 {
-    ghost from_gives = { λ r x. x ≡ number r };
-
-    fn from(refusal: Refusal) -> u64 {
-        refusal.number() as u64
-    }
-}
-
 impl fmt::Display for Refusal {
     fn fmt<W: fmt::Write>(&self, f: &mut fmt::Formatter<W>) -> fmt::Result {
         f.write_str(match self {

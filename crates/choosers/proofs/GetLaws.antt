@@ -21,7 +21,8 @@ use Rattle.lists.proofs.Having.{has_head}
 use Rattle.choosers.specs.declared.node_map.ConsistentNodeMap.{ConsistentNodeMap}
 use Rattle.choosers.specs.Choosers.{Q}
 use Rattle.choosers.specs.Slots.{active, actives, holder, slot_among}
-use Rattle.choosers.specs.SlotCalls.{slot_limit, fitting, told_looked, look_up, or_none, get_call, ScratchAfter}
+use Rattle.answers.specs.Refusals.{optional}
+use Rattle.choosers.specs.SlotCalls.{slot_limit, fitting, look_up, or_none, get_call, ScratchAfter}
 use Rattle.choosers.proofs.OrderLaws.{length_Q}
 use Rattle.choosers.proofs.SlotCallLaws.{fits_parts}
 use Rattle.choosers.proofs.SlotLaws.{holder_slot, slot_none, slot_some}
@@ -36,7 +37,7 @@ among_some s [] e = absurd (true≢false e)
 among_some s (x ∷ A) e = slot_some s (x ∷ A) x (has_head x A)
 
 -- the code's answer from what a lookup finds
-looked_or_none : (o : Option ℕ) → told (ok_or o NoneActive) ≡ or_none (told_looked o)
+looked_or_none : (o : Option ℕ) → told (ok_or o NoneActive) ≡ or_none (optional o)
 looked_or_none None = refl
 looked_or_none (Some x) = refl
 
@@ -66,14 +67,14 @@ module _ (m : ConsistentNodeMap) (t : List ℕ) (s places : ℕ) where
       get_none e = is_holder ∙ ap or_none (holder_slot s t m.total ∙ among_none s (actives t m.total) e)
 
       -- what is looked up is what get says
-      pub get_looked : (o : Option ℕ) → told_looked o ≡ look_up m.total t s places → told (ok_or o NoneActive) ≡ get_call m t s places
+      pub get_looked : (o : Option ℕ) → optional o ≡ look_up m.total t s places → told (ok_or o NoneActive) ≡ get_call m t s places
       get_looked o e = looked_or_none o ∙ ap or_none (e ∙ look_all) ∙ sym is_holder
 
       get_some : true ≡ not (eqb (length (actives t m.total)) 0) → look_up m.total t s places ≢ none
       get_some e n = among_some s (actives t m.total) e (sym (holder_slot s t m.total) ∙ sym look_all ∙ n)
 
       -- where one is active get is not refused, so the scratch is free
-      pub scratch_looked : true ≡ not (eqb (length (actives t m.total)) 0) → (o : Option ℕ) → told_looked o ≡ look_up m.total t s places
+      pub scratch_looked : true ≡ not (eqb (length (actives t m.total)) 0) → (o : Option ℕ) → optional o ≡ look_up m.total t s places
           → (r : Result ℕ Refusal) → r ≡ ok_or o NoneActive → (before now : List ℕ) → length now ≡ length before → ScratchAfter r before now
       scratch_looked e None q r is before now h = absurd (get_some e (sym q))
       scratch_looked e (Some x) q r is before now h = subst (λ (r : Result ℕ Refusal). ScratchAfter r before now) (sym is) h

@@ -1,6 +1,6 @@
 -- What the slot map's calls say and leave, on any count and any table.
 -- Assumes nothing.
-use Rattle.std.specs.Prelude.{◌≡◌, Bool, cond, ◌||◌, ◌&&◌, List, ℕ, ◌+◌, min, ltb, leb, eqb, length, set, take, Option, Some, None, Result, Ok, Err}
+use Rattle.std.specs.Prelude.{◌≡◌, Bool, cond, ◌||◌, ◌&&◌, List, ℕ, ◌+◌, min, ltb, leb, eqb, length, set, take, Result, Ok, Err}
 use Rattle.std.proofs.Math.Option as maybe
 use Rattle.lists.specs.Told.{Told, refusal, says}
 use Rattle.lists.specs.Lists.{every, find}
@@ -77,10 +77,6 @@ abbrev pub is_active_call : ConsistentNodeMap → List ℕ → ℕ → Told Bool
 is_active_call m t x = queried m t (active t m.total x)
 
 -- ---- get
-
-abbrev pub told_looked : Option ℕ → maybe.Option ℕ
-told_looked (Some x) = maybe.some x
-told_looked None = maybe.none
 
 -- the lookup without the record's tests: of the numbers of Q(count) as many as the scratch has places
 unfoldable pub look_up : ℕ → List ℕ → ℕ → ℕ → maybe.Option ℕ

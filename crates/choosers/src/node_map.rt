@@ -1,9 +1,9 @@
 // The slot map of document 01: a slot count, and a byte a slot in a table that is lent to each call.
 ghost use Rattle.std.specs.Prelude.{◌≡◌, min, length, take, is_ok, IfOk, IfErr};
 ghost use Rattle.choosers.specs.Slots.{state_of};
-ghost use Rattle.answers.specs.Refusals.{told};
+ghost use Rattle.answers.specs.Refusals.{told, optional};
 ghost use Rattle.answers.specs.declared.Refusal.TheVariants.{Misfit};
-ghost use Rattle.choosers.specs.SlotCalls.{map_of, slot_limit, fitting, after, add_call, remove_call, len_call, is_empty_call, is_active_call, told_looked, look_up, get_call, ScratchAfter};
+ghost use Rattle.choosers.specs.SlotCalls.{map_of, slot_limit, fitting, after, add_call, remove_call, len_call, is_empty_call, is_active_call, look_up, get_call, ScratchAfter};
 
 use crate::{lookups, tables};
 use answers::Refusal;
@@ -24,7 +24,7 @@ pub fn location_state(key: u64, location: u32) -> u64
 // The first active slot of the choice order of `count`, of as many of its numbers as the scratch has places: `get` without its
 // tests, for many lookups after one test.
 pub fn first_active(count: u32, table: &[u8], state: u64, scratch: &mut [u64]) -> Option<u32>
-    ensures { told_looked result ≡ look_up count table.now state (length scratch.old) }
+    ensures { optional result ≡ look_up count table.now state (length scratch.old) }
 {
     for k in 0..scratch.len().min(count as usize) {
         let x = lookups::next_number(state, count as u64, &mut scratch[..=k]);

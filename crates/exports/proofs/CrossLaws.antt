@@ -3,23 +3,19 @@
 use mathlib.Core.Path.{◌≡◌, sym, ap, ◌∙◌}
 use mathlib.Core.Bool.{Bool}
 use mathlib.Core.List.{List}
-use Prim.Native.Nat.{ℕ, ◌+◌, ◌*◌, ◌^◌, ◌≤◌, ◌<◌}
+use Prim.Native.Nat.{ℕ, ◌+◌, ◌^◌, ◌≤◌, ◌<◌}
 use borrow.Author.Tests.{lt-ltb, le-ltb}
 use lib.ListN.{length}
+use Rattle.std.specs.Prelude.{Option, Result, Ok, Err}
 use Rattle.lists.specs.Lists.{written}
-use Rattle.orders.specs.declared.Outcome.{Outcome}
-use Rattle.orders.specs.declared.Outcome.TheVariants as outcome
+use Rattle.answers.specs.declared.Refusal.{Refusal}
+use Rattle.answers.specs.Refusals.{number, told}
+use Rattle.orders.specs.declared.consistent_reservoir.Exchange.{Exchange}
 use Rattle.orders.specs.declared.consistent_reservoir.ConsistentReservoir.{ConsistentReservoir}
-use Rattle.orders.specs.declared.consistent_reservoir.Opened.{Opened}
-use Rattle.orders.specs.declared.consistent_reservoir.Opened.TheVariants as opened
-use Rattle.orders.specs.declared.consistent_reservoir.Exchange.TheVariants as exchange
-use Rattle.orders.specs.declared.consistent_reservoir.Admitted.{Admitted}
-use Rattle.orders.specs.declared.consistent_reservoir.LayerGrown.{LayerGrown}
-use Rattle.orders.specs.Outcomes.{told_outcome}
-use Rattle.orders.specs.ReservoirCalls.{fitting, after_open, told_opened, open_call, short_refusal, admitted, admit_call, layer_grown, grow_layer_call, after_sample, sample_call}
+use Rattle.orders.specs.ReservoirCalls.{fitting, after, after_open, open_call, short_refusal, told_exchange, admit_call, grow_layer_call, after_sample, sample_call}
 use Rattle.exports.specs.Coded.{truth, coded_done}
-use Rattle.exports.specs.Crossings.{crossed, crossed_one}
-use Rattle.exports.specs.Reservoirs.{words_of, record_of, new_crossed, next_crossed, grow_crossed, sample_crossed, fits_crossed}
+use Rattle.exports.specs.Crossings.{crossed, crossed_one, words_after}
+use Rattle.exports.specs.Reservoirs.{words_of, record_of, coded_exchange, new_crossed, next_crossed, grow_crossed, sample_crossed, fits_crossed}
 
 -- ---- new
 
@@ -27,12 +23,12 @@ pub new_short : (k n key : ℕ) (l ws : List ℕ) (r w : ℕ) → r ≡ 2 ^ 63 +
 unfolding new_crossed
 new_short k n key l ws r w e s h = rw (e, s, lt-ltb (length ws) 6 h)
 
-module _ (k n key : ℕ) (l ws : List ℕ) (o : Opened) (l' : List ℕ) (e : after_open (told_opened o) l' ≡ open_call k n key l) (h : 6 ≤ length ws) where
-  pub new_made : (r : ConsistentReservoir) → o ≡ opened.Made r → (ws' : List ℕ) → ws' ≡ written (words_of r) ws → crossed 0 ws' l' ≡ new_crossed k n key l ws
+module _ (k n key : ℕ) (l ws : List ℕ) (o : Result ConsistentReservoir Refusal) (l' : List ℕ) (e : after_open (told o) l' ≡ open_call k n key l) (h : 6 ≤ length ws) where
+  pub new_made : (r : ConsistentReservoir) → o ≡ Ok r → (ws' : List ℕ) → ws' ≡ written (words_of r) ws → crossed 0 ws' l' ≡ new_crossed k n key l ws
   unfolding new_crossed
   new_made r m ws' w = rw (le-ltb (length ws) 6 h, ← e, m, w)
 
-  pub new_refused : (c a : ℕ) → o ≡ opened.Refused c → a ≡ 2 ^ 63 + c → crossed a ws l' ≡ new_crossed k n key l ws
+  pub new_refused : (c : Refusal) (a : ℕ) → o ≡ Err c → a ≡ 2 ^ 63 + number c → crossed a ws l' ≡ new_crossed k n key l ws
   unfolding new_crossed
   new_refused c a m w = rw (le-ltb (length ws) 6 h, ← e, m, w)
 
@@ -42,21 +38,12 @@ pub next_short : (ws l : List ℕ) (r : ℕ) → r ≡ 2 ^ 63 + 4 → length ws 
 unfolding next_crossed
 next_short ws l r e h = rw (e, lt-ltb (length ws) 6 h)
 
-module _ (ws l : List ℕ) (r : ConsistentReservoir) (a : Admitted) (l' : List ℕ) (is : r ≡ record_of ws) (e : admitted a l' ≡ admit_call r l) (h : 6 ≤ length ws) where
-  from_words : admit_call (record_of ws) l ≡ admitted a l'
-  from_words = sym (e ∙ ap (λ (z : ConsistentReservoir). admit_call z l) is)
-
-  pub next_refused : (c x : ℕ) → a.exchange ≡ exchange.Refused c → x ≡ 2 ^ 63 + c → crossed x ws l' ≡ next_crossed ws l
-  unfolding next_crossed
-  next_refused c x m w = rw (le-ltb (length ws) 6 h, from_words, m, w)
-
-  pub next_none : a.exchange ≡ exchange.Nothing → (ws' : List ℕ) → ws' ≡ written (words_of a.reservoir) ws → crossed (2 ^ 63) ws' l' ≡ next_crossed ws l
-  unfolding next_crossed
-  next_none m ws' w = rw (le-ltb (length ws) 6 h, from_words, m, w)
-
-  pub next_in_out : (v x y : ℕ) → a.exchange ≡ exchange.InOut v x → y ≡ v * 2 ^ 32 + x → (ws' : List ℕ) → ws' ≡ written (words_of a.reservoir) ws → crossed y ws' l' ≡ next_crossed ws l
-  unfolding next_crossed
-  next_in_out v x y m d ws' w = rw (le-ltb (length ws) 6 h, from_words, m, d, w)
+pub next_crosses : (ws l ws' l' : List ℕ) (r b : ConsistentReservoir) (e : Result (Option Exchange) Refusal) (x : ℕ) → r ≡ record_of ws → after (told_exchange e) b l' ≡ admit_call r l → 6 ≤ length ws
+    → ws' ≡ words_after ws (told_exchange e) (words_of b) → x ≡ coded_exchange (told_exchange e) → crossed x ws' l' ≡ next_crossed ws l
+unfolding next_crossed
+next_crosses ws l ws' l' r b e x is f h w c =
+    let from_words : admit_call (record_of ws) l ≡ after (told_exchange e) b l' = sym (f ∙ ap (λ (z : ConsistentReservoir). admit_call z l) is) in
+    rw (le-ltb (length ws) 6 h, from_words, w, c)
 
 -- ---- grow_layer
 
@@ -64,17 +51,12 @@ pub grow_short : (ws l : List ℕ) (r : ℕ) → r ≡ 2 ^ 63 + 4 → length ws 
 unfolding grow_crossed
 grow_short ws l r e h = rw (e, lt-ltb (length ws) 6 h)
 
-module _ (ws l : List ℕ) (r : ConsistentReservoir) (a : LayerGrown) (l' : List ℕ) (is : r ≡ record_of ws) (e : layer_grown a l' ≡ grow_layer_call r l) (h : 6 ≤ length ws) where
-  grown_words : grow_layer_call (record_of ws) l ≡ layer_grown a l'
-  grown_words = sym (e ∙ ap (λ (z : ConsistentReservoir). grow_layer_call z l) is)
-
-  pub grow_refused : (c x : ℕ) → a.outcome ≡ outcome.Refused c → x ≡ 2 ^ 63 + c → crossed x ws l' ≡ grow_crossed ws l
-  unfolding grow_crossed
-  grow_refused c x m w = rw (le-ltb (length ws) 6 h, grown_words, m, w)
-
-  pub grow_done : a.outcome ≡ outcome.Done → (ws' : List ℕ) → ws' ≡ written (words_of a.reservoir) ws → crossed 0 ws' l' ≡ grow_crossed ws l
-  unfolding grow_crossed
-  grow_done m ws' w = rw (le-ltb (length ws) 6 h, grown_words, m, w)
+pub grow_crosses : (ws l ws' l' : List ℕ) (r b : ConsistentReservoir) (e : Result (Unit {0}) Refusal) (x : ℕ) → r ≡ record_of ws → after (told e) b l' ≡ grow_layer_call r l → 6 ≤ length ws
+    → ws' ≡ words_after ws (told e) (words_of b) → x ≡ coded_done (told e) → crossed x ws' l' ≡ grow_crossed ws l
+unfolding grow_crossed
+grow_crosses ws l ws' l' r b e x is f h w c =
+    let from_words : grow_layer_call (record_of ws) l ≡ after (told e) b l' = sym (f ∙ ap (λ (z : ConsistentReservoir). grow_layer_call z l) is) in
+    rw (le-ltb (length ws) 6 h, from_words, w, c)
 
 -- ---- the sample, and the test
 
@@ -82,11 +64,11 @@ pub sample_few : (ws l o : List ℕ) (r : ℕ) → r ≡ 2 ^ 63 + 4 → length w
 unfolding sample_crossed
 sample_few ws l o r e h = rw (e, lt-ltb (length ws) 6 h)
 
-pub sample_coded : (ws l o : List ℕ) (r : ConsistentReservoir) (a : Outcome) (o' : List ℕ) (x : ℕ) → r ≡ record_of ws → after_sample (told_outcome a) o' ≡ sample_call r l o
-    → x ≡ coded_done (told_outcome a) → 6 ≤ length ws → crossed_one x o' ≡ sample_crossed ws l o
+pub sample_coded : (ws l o : List ℕ) (r : ConsistentReservoir) (a : Result (Unit {0}) Refusal) (o' : List ℕ) (x : ℕ) → r ≡ record_of ws → after_sample (told a) o' ≡ sample_call r l o
+    → x ≡ coded_done (told a) → 6 ≤ length ws → crossed_one x o' ≡ sample_crossed ws l o
 unfolding sample_crossed
 sample_coded ws l o r a o' x is e w h =
-    let f : sample_call (record_of ws) l o ≡ after_sample (told_outcome a) o' = sym (e ∙ ap (λ (z : ConsistentReservoir). sample_call z l o) is) in
+    let f : sample_call (record_of ws) l o ≡ after_sample (told a) o' = sym (e ∙ ap (λ (z : ConsistentReservoir). sample_call z l o) is) in
     rw (le-ltb (length ws) 6 h, f, w)
 
 pub fits_coded : (ws l : List ℕ) (r : ConsistentReservoir) (b : Bool) (x : ℕ) → r ≡ record_of ws → b ≡ fitting r l → x ≡ truth b → 6 ≤ length ws

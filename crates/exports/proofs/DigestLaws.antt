@@ -1,54 +1,58 @@
 -- A turn of the loop that feeds a whole walk to one state, for any walk.
 -- Assumes nothing.
-use mathlib.Core.Path.{◌≡◌}
-use mathlib.Core.Bool.{Bool, true, false}
-use mathlib.Core.List.{List, []}
-use Prim.Native.Nat.{ℕ, suc, ◌+◌, ◌%◌, ◌^◌, ◌<◌}
+use mathlib.Core.Path.{◌≡◌, refl, sym, ap}
+use mathlib.Core.Option.{none, some}
+use mathlib.Core.List.{List, [], ◌∷◌}
+use Prim.Native.Nat.{ℕ, ◌+◌, ◌%◌, ◌^◌, ◌<◌}
 use native.Mathlib.Omega.{arith}
 use lib.ListN.{length}
+use Rattle.std.specs.Prelude.{true, Result, Ok, Err, is_ok}
+use Rattle.std.specs.Prelude as rust
+use Rattle.answers.specs.declared.Refusal.{Refusal}
+use Rattle.answers.specs.Refusals.{told_option}
 use Rattle.lists.specs.Told.{says, refusal}
+use Rattle.hashes.specs.Hashes.{feed}
 use Rattle.hashes.specs.Calls.{limited}
-use Rattle.lists.specs.Steps.{Step}
+use Rattle.lists.specs.Steps.{Step, stepped_to}
 use Rattle.lists.proofs.Turns.{Turn, ended, gave}
 use Rattle.hashes.proofs.CallLaws.{limited_in, limited_out, limited_says, limited_refuses}
 use Rattle.exports.specs.Coded.{fed_all, digest, coded_number}
-use Rattle.exports.specs.InnerDigests.{fed_with, says_hash}
 
 module _ {W : Type 0} {step : W → Step W} {rest : W → List ℕ} {good : W → Type 0} (turn : (w : W) → good w → Turn step rest good w) where
-  -- what a walk is still to give: nothing once it said that no hash is left
-  abbrev pub left : Bool → W → List ℕ
-  left true w = rest w
-  left false w = []
-
-  -- how many calls are still to come
-  abbrev pub calls : Bool → W → ℕ
-  calls true w = suc (length (rest w))
-  calls false w = 0
-
-  pub record Turned (d : ℕ) (w : W) : Type 0 where
-    pub stays_good : good (step w).walk
-    pub feeds : fed_all (fed_with d (step w).said) (left (says_hash (step w).said) (step w).walk) ≡ fed_all d (rest w)
-    pub fewer : calls (says_hash (step w).said) (step w).walk < suc (length (rest w))
-
-  pub turned : (d : ℕ) (w : W) → good w → Turned d w
-  turned d w g = go (turn w g)
-    where
-      go : Turn step rest good w → Turned d w
-      go (ended said stays nothing empty) = record { stays_good = stays; feeds = rw (said, empty); fewer = rw (said, empty) (omega arith) }
-      go (gave x said more splits) = record { stays_good = more; feeds = rw (said, splits); fewer = rw (said, splits) (omega arith) }
-
-  -- the same, of a step t that the code made, the number e and the truth b that it worked out from it
-  pub record Fed (d e : ℕ) (b : Bool) (v w : W) : Type 0 where
+  -- a call on w gave x and left v: x is fed, and v is to give the rest
+  pub record Fed (d x : ℕ) (v w : W) : Type 0 where
     pub goes_on : good v
-    pub same : fed_all e (left b v) ≡ fed_all d (rest w)
-    pub less : calls b v < suc (length (rest w))
+    pub same : fed_all (feed d x) (rest v) ≡ fed_all d (rest w)
+    pub less : length (rest v) < length (rest w)
 
-  pub fed : (d e : ℕ) (b : Bool) (w : W) (t : Step W) → good w → t ≡ step w → e ≡ fed_with d t.said → b ≡ says_hash t.said → Fed d e b t.walk w
-  fed d e b w t g p q r =
-      let k : Turned d w = turned d w g in
-      let q' : e ≡ fed_with d (step w).said = rw p at q in
-      let r' : b ≡ says_hash (step w).said = rw p at r in
-      rw (q', r', p) (record { goes_on = k.stays_good; same = k.feeds; less = k.fewer })
+  pub fed : (d x : ℕ) (v w : W) → good w → stepped_to (says (some x)) v ≡ step w → Fed d x v w
+  fed d x v w g p = go (turn w g)
+    where
+      go : Turn step rest good w → Fed d x v w
+      go (ended said stays nothing empty) = let f = ap (λ (t : Step W). t.said) p in let z : ◌≡◌ {A = ℕ} 0 1 = cc in absurd (omega arith)
+      go (gave y said more splits) =
+          let f = ap (λ (t : Step W). t.said) p in
+          let q : y ≡ x = cc in
+          let v' : (step w).walk ≡ v = ap (λ (t : Step W). t.walk) (sym p) in
+          let s : rest w ≡ x ∷ rest v = rw (q, v') at splits in
+          record { goes_on = rw v' at more; same = ap (fed_all d) (sym s); less = rw s (omega arith) }
+
+  -- it gave none: nothing was left
+  pub fed_all_of : (v w : W) → good w → stepped_to (says none) v ≡ step w → rest w ≡ []
+  fed_all_of v w g p = go (turn w g)
+    where
+      go : Turn step rest good w → rest w ≡ []
+      go (ended is stays nothing empty) = empty
+      go (gave y is more splits) = let f = ap (λ (t : Step W). t.said) p in let z : ◌≡◌ {A = ℕ} 0 1 = cc in absurd (omega arith)
+
+  -- it is not refused
+  pub fed_ok : (said : Result (rust.Option ℕ) Refusal) (v w : W) → good w → stepped_to (told_option said) v ≡ step w → is_ok said ≡ true
+  fed_ok (Ok x) v w g p = refl
+  fed_ok (Err why) v w g p = go (turn w g)
+    where
+      go : {A : Type 0} → Turn step rest good w → A
+      go (ended is stays nothing empty) = let f = ap (λ (t : Step W). t.said) p in let z : ◌≡◌ {A = ℕ} 0 1 = cc in absurd (omega arith)
+      go (gave y is more splits) = let f = ap (λ (t : Step W). t.said) p in let z : ◌≡◌ {A = ℕ} 0 1 = cc in absurd (omega arith)
 
 -- ---- the answer of a call that makes a walk and feeds it, over any walk: xs n is what it gives
 

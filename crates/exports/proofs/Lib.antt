@@ -1,3 +1,4 @@
+pub mod KeptLaws
 pub mod XorLaws
 pub mod DigestLaws
 pub mod CrossLaws

@@ -6,10 +6,12 @@ use Prim.Native.Nat.{ℕ, ◌+◌, ◌%◌, ◌^◌, ◌≤◌, ◌<◌}
 use borrow.Author.Tests.{lt-ltb, le-ltb}
 use lib.ListN.{length, take}
 use Rattle.lists.specs.Lists.{written}
-use Rattle.orders.specs.declared.Outcome.TheVariants as outcome
-use Rattle.orders.specs.declared.consistent_permutation.Started.{Started}
+use Rattle.std.specs.Prelude.{Result, Ok, Err}
+use Rattle.answers.specs.declared.Refusal.{Refusal}
+use Rattle.answers.specs.Refusals.{number, told}
+use Rattle.orders.specs.declared.consistent_permutation.ConsistentPermutation.{ConsistentPermutation}
 use Rattle.orders.specs.Orders.{P}
-use Rattle.orders.specs.OrderCalls.{started, new_call}
+use Rattle.orders.specs.OrderCalls.{new_call}
 use Rattle.exports.specs.Coded.{coded_number, fed_all, digest}
 use Rattle.exports.specs.Crossings.{crossed_one, short_of}
 use Rattle.exports.specs.Orders.{order_words, new_order_crossed, next_order_crossed, order_digest}
@@ -20,14 +22,14 @@ pub new_short : (n key : ℕ) (ws : List ℕ) (r w : ℕ) → r ≡ 2 ^ 63 + w �
 unfolding new_order_crossed
 new_short n key ws r w e s h = rw (e, s, lt-ltb (length ws) 18 h)
 
-module _ (n key : ℕ) (ws : List ℕ) (s : Started) (e : started s ≡ new_call n key) (h : 18 ≤ length ws) where
-  pub new_refused : (c x : ℕ) → s.outcome ≡ outcome.Refused c → x ≡ 2 ^ 63 + c → crossed_one x ws ≡ new_order_crossed n key ws
+module _ (n key : ℕ) (ws : List ℕ) (s : Result ConsistentPermutation Refusal) (e : told s ≡ new_call n key) (h : 18 ≤ length ws) where
+  pub new_refused : (c : Refusal) (x : ℕ) → s ≡ Err c → x ≡ 2 ^ 63 + number c → crossed_one x ws ≡ new_order_crossed n key ws
   unfolding new_order_crossed
   new_refused c x m w = rw (le-ltb (length ws) 18 h, ← e, m, w)
 
-  pub new_made : s.outcome ≡ outcome.Done → (ws' : List ℕ) → ws' ≡ written (order_words s.order) ws → crossed_one 0 ws' ≡ new_order_crossed n key ws
+  pub new_made : (o : ConsistentPermutation) → s ≡ Ok o → (ws' : List ℕ) → ws' ≡ written (order_words o) ws → crossed_one 0 ws' ≡ new_order_crossed n key ws
   unfolding new_order_crossed
-  new_made m ws' w = rw (le-ltb (length ws) 18 h, ← e, m, w)
+  new_made o m ws' w = rw (le-ltb (length ws) 18 h, ← e, m, w)
 
 -- ---- next
 

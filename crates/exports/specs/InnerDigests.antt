@@ -1,6 +1,6 @@
 -- What the promises of private functions on what a walk found say. No public promise cites this file.
 -- Assumes nothing.
-use Rattle.std.specs.Prelude.{Bool, true, false, ℕ}
+use Rattle.std.specs.Prelude.{ℕ}
 use Rattle.std.proofs.Math.Option.{Option, none, some}
 use Rattle.lists.specs.Told.{Told, refusal, says}
 use Rattle.hashes.specs.Hashes.{feed}
@@ -10,8 +10,3 @@ abbrev pub fed_with : ℕ → Told (Option ℕ) → ℕ
 fed_with d (refusal c) = d
 fed_with d (says none) = d
 fed_with d (says (some x)) = feed d x
-
-abbrev pub says_hash : Told (Option ℕ) → Bool
-says_hash (refusal c) = false
-says_hash (says none) = false
-says_hash (says (some x)) = true

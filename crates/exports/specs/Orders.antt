@@ -18,14 +18,12 @@ abbrev pub order_as : List ℕ → ConsistentPermutation
 order_as ws = order_of (get_or ws 1 0 * 2 ^ 32 + get_or ws 0 0) (get_or ws 2 0) (map (λ i. get_or ws (3 + i) 0) (zero_to 15))
 
 -- a refusal leaves the words
-abbrev pub started_as : List ℕ → Told (Unit {0}) → ConsistentPermutation → CrossedOne
-started_as ws (says u) o = crossed_one 0 (written (order_words o) ws)
-started_as ws (refusal c) o = crossed_one (2 ^ 63 + c) ws
+abbrev pub started_as : List ℕ → Told ConsistentPermutation → CrossedOne
+started_as ws (says o) = crossed_one 0 (written (order_words o) ws)
+started_as ws (refusal c) = crossed_one (2 ^ 63 + c) ws
 
 unfoldable pub new_order_crossed : ℕ → ℕ → List ℕ → CrossedOne
-new_order_crossed n key ws =
-    let s = new_call n key in
-    enough_else (short_of (2 ^ 30) 0 n) 18 ws (λ a. crossed_one a ws) (started_as ws s.told s.order)
+new_order_crossed n key ws = enough_else (short_of (2 ^ 30) 0 n) 18 ws (λ a. crossed_one a ws) (started_as ws (new_call n key))
 
 abbrev pub stepped_as : List ℕ → Told (Option ℕ) → ConsistentPermutation → CrossedOne
 stepped_as ws (says o) w = crossed_one (coded_hash (says o)) (written (order_words w) ws)

@@ -15,14 +15,14 @@ ghost use Rattle.layers.specs.Calls.{layer_apply};
 ghost use Rattle.layers.specs.KeyedLayers.{applied};
 ghost use Rattle.hashes.specs.Hashes.{feed};
 ghost use Rattle.hashes.specs.Next.{low};
-ghost use Rattle.hashes.specs.Calls.{told, limited, prev_call, next_call};
+ghost use Rattle.hashes.specs.Calls.{limited, prev_call, next_call};
+ghost use Rattle.answers.specs.Refusals.{told};
 ghost use Rattle.hashes.specs.Walks.{fall, rise};
 ghost use Rattle.exports.specs.Coded.{coded, xors, layer_xors, coded_hash, coded_number, falling_digest, rising_digest};
 
-use hashes::{
-    ConsistentHashIterator, ConsistentHashRevIterator, ConsistentHasher, Falling, Found, Rising,
-};
-use layers::{Applied, Keyed, KeyedLayer};
+use answers::Refusal;
+use hashes::{ConsistentHashIterator, ConsistentHashRevIterator, ConsistentHasher};
+use layers::KeyedLayer;
 
 pub fn perillajamb_wrapping_mul(a: u64, b: u64) -> u64
     ensures { result ≡ wrapping_mul a b }
@@ -45,9 +45,16 @@ pub fn perillajamb_splitmix64(v: u64) -> u64
 pub fn perillajamb_layer_apply(layer: u32, key: u64, x: u32) -> u64
     ensures { result ≡ coded (layer_apply layer key x) }
 {
-    match layers::layer_apply(layer, key, x) {
-        Applied::Output(y) => y as u64,
-        Applied::Refused(c) => 0x1_0000_0000 + (c as u64),
+    coded_output(layers::layer_apply(layer, key, x))
+}
+
+// An output as it is, refusal c as 2^32 + c.
+fn coded_output(said: Result<u32, Refusal>) -> u64
+    ensures { result ≡ coded (told said) }
+{
+    match said {
+        Ok(y) => u64::from(y),
+        Err(why) => 0x1_0000_0000 + u64::from(why.number()),
     }
 }
 
@@ -56,10 +63,8 @@ fn xor_outputs(f: KeyedLayer, n: u32) -> u64
     ensures { result ≡ xors (applied f) n }
 {
     let mut sum: u64 = 0;
-    let mut x: u32 = 0;
-    while x < n {
-        sum = sum ^ (f.apply(x) as u64);
-        x += 1;
+    for x in 0..n {
+        sum ^= u64::from(f.apply(x));
     }
     sum
 }
@@ -69,8 +74,8 @@ pub fn perillajamb_layer_xors(layer: u32, key: u64, n: u32) -> u64
     ensures { result ≡ coded (layer_xors layer key n) }
 {
     match KeyedLayer::new(layer, key) {
-        Keyed::Made(f) => xor_outputs(f, n),
-        Keyed::Refused(c) => 0x1_0000_0000 + (c as u64),
+        Ok(f) => xor_outputs(f, n),
+        Err(why) => coded_output(Err(why)),
     }
 }
 
@@ -80,43 +85,30 @@ pub fn perillajamb_seq_builder(state: u64, i: u64) -> u64
     hashes::seq_builder(state, i)
 }
 
-// What was found, as one number.
-fn coded_found(found: Found) -> u64
-    ensures { result ≡ coded_hash (told found) }
-{
-    match found {
-        Found::Hash(x) => x,
-        Found::Nothing => 0x8000_0000_0000_0000,
-        Found::Refused(c) => 0x8000_0000_0000_0000 + (c as u64),
-    }
-}
-
 pub fn perillajamb_prev(state: u64, n: u64) -> u64
     ensures { result ≡ coded_hash (prev_call state n) }
 {
-    coded_found(ConsistentHasher::new(state).prev(n))
+    parts::hash(ConsistentHasher::new(state).prev(n))
 }
 
 pub fn perillajamb_into_prev(state: u64, n: u64) -> u64
     ensures { result ≡ coded_hash (prev_call state n) }
 {
-    coded_found(ConsistentHasher::new(state).into_prev(n))
+    parts::hash(ConsistentHasher::new(state).into_prev(n))
 }
 
 pub fn perillajamb_next(state: u64, n: u64) -> u64
     ensures { result ≡ coded_hash (next_call state n) }
 {
-    coded_found(ConsistentHasher::new(state).next(n))
+    parts::hash(ConsistentHasher::new(state).next(n))
 }
 
 // A step of the falling walk: the largest hash below n. After a hash the walk's n is that hash.
 pub fn perillajamb_falling_next(state: u64, n: u64) -> u64
     ensures { result ≡ coded_hash (fall (record { state = state; n = n })).said }
 {
-    let walk = ConsistentHashRevIterator { state, n };
-    let step = walk.next();
-    let found = step.found;
-    coded_found(found)
+    let mut walk = ConsistentHashRevIterator { state, n };
+    parts::hash(walk.next())
 }
 
 // Where the rising walk from n starts: its `low`.
@@ -124,8 +116,8 @@ pub fn perillajamb_rising_low(n: u64) -> u64
     ensures { result ≡ coded_number (limited n (low n)) }
 {
     match ConsistentHashIterator::new(n, 0) {
-        Rising::Made(walk) => walk.low,
-        Rising::Refused(c) => 0x8000_0000_0000_0000 + (c as u64),
+        Ok(walk) => walk.low,
+        Err(why) => parts::refused(why),
     }
 }
 
@@ -133,10 +125,8 @@ pub fn perillajamb_rising_low(n: u64) -> u64
 pub fn perillajamb_rising_next(state: u64, low: u64) -> u64
     ensures { result ≡ coded_hash (rise (record { state = state; low = low })).said }
 {
-    let walk = ConsistentHashIterator { state, low };
-    let step = walk.next();
-    let found = step.found;
-    coded_found(found)
+    let mut walk = ConsistentHashIterator { state, low };
+    parts::hash(Ok(walk.next()))
 }
 
 // Every hash of the falling walk from n, as one number.
@@ -144,8 +134,8 @@ pub fn perillajamb_falling_digest(state: u64, n: u64) -> u64
     ensures { result ≡ coded_number (falling_digest state n) }
 {
     match ConsistentHashRevIterator::new(n, state) {
-        Falling::Made(walk) => digests::falling_fed(walk) % 0x8000_0000_0000_0000,
-        Falling::Refused(c) => 0x8000_0000_0000_0000 + (c as u64),
+        Ok(walk) => digests::falling_fed(walk) % 0x8000_0000_0000_0000,
+        Err(why) => parts::refused(why),
     }
 }
 
@@ -154,7 +144,7 @@ pub fn perillajamb_rising_digest(state: u64, n: u64) -> u64
     ensures { result ≡ coded_number (rising_digest state n) }
 {
     match ConsistentHashIterator::new(n, state) {
-        Rising::Made(walk) => digests::rising_fed(walk) % 0x8000_0000_0000_0000,
-        Rising::Refused(c) => 0x8000_0000_0000_0000 + (c as u64),
+        Ok(walk) => digests::rising_fed(walk) % 0x8000_0000_0000_0000,
+        Err(why) => parts::refused(why),
     }
 }

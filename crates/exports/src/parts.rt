@@ -1,47 +1,117 @@
-// Parts of the numbers that cross.
-ghost use Rattle.std.specs.Prelude.{◌≡◌, ◌+◌, ◌*◌, ◌^◌};
-ghost use Rattle.exports.specs.Coded.{truth};
+// Answers as the one number that crosses, and the numbers of two words.
+ghost use Rattle.std.specs.Prelude.{◌≡◌, ◌+◌, ◌*◌, ◌^◌, ◌<◌, OnOk};
+ghost use Rattle.answers.specs.Refusals.{number, told, told_option};
+ghost use Rattle.orders.specs.ReservoirCalls.{told_exchange};
+ghost use Rattle.exports.specs.Coded.{truth, coded_done, coded_number, coded_hash};
 ghost use Rattle.exports.specs.Crossings.{short_of};
+ghost use Rattle.exports.specs.Reservoirs.{coded_exchange};
+ghost use Rattle.exports.specs.Slots.{coded_truth};
 
-// The number of a refusal.
-pub(crate) fn refused(c: u32) -> u64
-    ensures { result ≡ 2 ^ 63 + c }
+use answers::Refusal;
+use orders::consistent_reservoir::Exchange;
+
+// No number that a call answers is so large: it stands for none, and a refusal's number is added to it.
+const NONE: u64 = 0x8000_0000_0000_0000;
+
+pub(crate) fn refused(why: Refusal) -> u64
+    ensures { result ≡ 2 ^ 63 + number why }
 {
-    0x8000_0000_0000_0000 + (c as u64)
+    NONE + u64::from(why.number())
+}
+
+// A call with nothing to say but that it was done.
+pub(crate) fn done(said: Result<(), Refusal>) -> u64
+    ensures { result ≡ coded_done (told said) }
+{
+    match said {
+        Ok(()) => 0,
+        Err(why) => refused(why),
+    }
+}
+
+pub(crate) fn wide_number(said: Result<u64, Refusal>) -> u64
+    ensures { result ≡ coded_number (told said) }
+{
+    match said {
+        Ok(x) => x,
+        Err(why) => refused(why),
+    }
+}
+
+// The same of a number of 32 bits. Over `Into<u64>` the promise would have to speak of what the bound gives.
+pub(crate) fn number(said: Result<u32, Refusal>) -> u64
+    ensures value { result ≡ coded_number (told said) }
+    ensures no_refusal { OnOk said (result < 2 ^ 32) }
+{
+    match said {
+        Ok(x) => u64::from(x),
+        Err(why) => refused(why),
+    }
+}
+
+pub(crate) fn hash(said: Result<Option<u64>, Refusal>) -> u64
+    ensures { result ≡ coded_hash (told_option said) }
+{
+    match said {
+        Ok(Some(x)) => x,
+        Ok(None) => NONE,
+        Err(why) => refused(why),
+    }
+}
+
+// The same of a number of 32 bits.
+pub(crate) fn number_or_none(said: Result<Option<u32>, Refusal>) -> u64
+    ensures { result ≡ coded_hash (told_option said) }
+{
+    match said {
+        Ok(Some(x)) => u64::from(x),
+        Ok(None) => NONE,
+        Err(why) => refused(why),
+    }
+}
+
+pub(crate) fn yes_or_no(said: Result<bool, Refusal>) -> u64
+    ensures { result ≡ coded_truth (told said) }
+{
+    match said {
+        Ok(b) => yes(b),
+        Err(why) => refused(why),
+    }
+}
+
+pub(crate) fn exchange(said: Result<Option<Exchange>, Refusal>) -> u64
+    ensures { result ≡ coded_exchange (told_exchange said) }
+{
+    match said {
+        Ok(Some(e)) => joined(e.leaves, e.enters),
+        Ok(None) => NONE,
+        Err(why) => refused(why),
+    }
 }
 
 // The refusal of a call that makes a record of k of n, for which the words are too few.
-pub(crate) fn short_of(limit: u64, k: u64, n: u64) -> u32
-    ensures { result ≡ short_of limit k n }
+pub(crate) fn short_of(limit: u64, k: u64, n: u64) -> Refusal
+    ensures { number result ≡ short_of limit k n }
 {
     if limit < n {
-        return 1;
+        return Refusal::NAboveLimit;
     }
     if n < k {
-        return 3;
+        return Refusal::KAboveN;
     }
-    4
+    Refusal::ShortMemory
 }
 
 // Two words as one number.
 pub(crate) fn joined(low: u32, high: u32) -> u64
     ensures { result ≡ high * 2 ^ 32 + low }
 {
-    (high as u64) * 0x1_0000_0000 + (low as u64)
-}
-
-pub(crate) fn wide(x: u32) -> u64
-    ensures { result ≡ x }
-{
-    x as u64
+    u64::from(high) * 0x1_0000_0000 + u64::from(low)
 }
 
 // Yes as 1, no as 0.
 pub(crate) fn yes(b: bool) -> u64
     ensures { result ≡ truth b }
 {
-    if b {
-        return 1;
-    }
-    0
+    u64::from(b)
 }

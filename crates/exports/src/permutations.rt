@@ -1,9 +1,9 @@
 // Orders for C and Rust. The record is eighteen words that the caller keeps: the key's low and high 32 bits, n, the fifteen
 // counters.
-ghost use Rattle.std.specs.Prelude.{◌≡◌, ◌+◌, ◌^◌, ◌≤◌, length, take};
+ghost use Rattle.std.specs.Prelude.{◌≡◌, cond, ◌+◌, ◌^◌, ◌≤◌, length, take};
 ghost use Rattle.lists.specs.Lists.{written};
 ghost use Rattle.orders.specs.Orders.{P};
-ghost use Rattle.orders.specs.OrderCalls.{told_given};
+ghost use Rattle.answers.specs.Refusals.{told_option};
 ghost use Rattle.exports.specs.Coded.{coded_number, fed_all};
 ghost use Rattle.exports.specs.Crossings.{crossed_one};
 ghost use Rattle.exports.specs.InnerDigests.{fed_with};
@@ -11,8 +11,8 @@ ghost use Rattle.exports.specs.InnerRuns.{ran_as, run_crossed};
 ghost use Rattle.exports.specs.Orders.{order_words, order_as, new_order_crossed, next_order_crossed, order_digest};
 
 use crate::parts;
-use orders::Outcome;
-use orders::consistent_permutation::{ConsistentPermutation, Given};
+use answers::Refusal;
+use orders::consistent_permutation::ConsistentPermutation;
 
 // What some calls of `next` came to: the answer of the last, and a state fed with all numbers.
 #[derive(Clone, Copy)]
@@ -21,6 +21,7 @@ pub struct Ran {
     pub fed: u64,
 }
 
+// C lends words of any length, so that there are eighteen is tested once in each call, and asked for by those that read and write them.
 fn loaded(ws: &[u32]) -> ConsistentPermutation
     requires { 18 ≤ length ws.now }
     ensures { result ≡ order_as ws.now }
@@ -60,33 +61,40 @@ fn store(o: ConsistentPermutation, ws: &mut [u32])
     ws[17] = cs[14];
 }
 
+// The record after a call, where that was not refused.
+fn keep(accepted: bool, o: ConsistentPermutation, ws: &mut [u32])
+    requires { 18 ≤ length ws.old }
+    ensures { ws.new ≡ cond accepted (written (order_words o) ws.old) ws.old }
+{
+    if accepted {
+        store(o, ws);
+    }
+}
+
 // A new order of 0..n.
 pub fn perillajamb_order_new(n: u32, key: u64, ws: &mut [u32]) -> u64
     ensures { crossed_one result ws.new ≡ new_order_crossed n key ws.old }
 {
     if ws.len() < 18 {
-        let short = parts::short_of(0x4000_0000, 0, n as u64);
-        return parts::refused(short);
+        let limit = u64::from(ConsistentPermutation::N_LIMIT);
+        return parts::refused(parts::short_of(limit, 0, u64::from(n)));
     }
-    let s = ConsistentPermutation::new(n, key);
-    let e = s.outcome;
-    match e {
-        Outcome::Refused(c) => parts::refused(c),
-        Outcome::Done => {
-            store(s.order, ws);
+    match ConsistentPermutation::new(n, key) {
+        Ok(order) => {
+            store(order, ws);
             0
         }
+        Err(why) => parts::refused(why),
     }
 }
 
 // A state fed with the number that was given.
-fn fed_with(d: u64, given: Given) -> u64
-    ensures { result ≡ fed_with d (told_given given) }
+fn fed_with(d: u64, said: Result<Option<u32>, Refusal>) -> u64
+    ensures { result ≡ fed_with d (told_option said) }
 {
-    match given {
-        Given::Number(y) => hashes::seq_builder(d, y as u64),
-        Given::Nothing => d,
-        Given::Refused(_) => d,
+    match said {
+        Ok(Some(y)) => hashes::seq_builder(d, u64::from(y)),
+        _ => d,
     }
 }
 
@@ -97,36 +105,16 @@ fn run(ws: &mut [u32], count: u32) -> Ran
     ensures { ran_as result ws.new ≡ run_crossed count ws.old }
 {
     let mut order = loaded(ws);
-    let mut given = Given::Nothing;
-    let mut fed: u64 = 0;
-    let mut left = count;
-    while 0 < left {
-        let step = order.next();
-        let g = step.given;
-        fed = fed_with(fed, g);
-        given = g;
-        order = step.order;
-        left -= 1;
+    let mut said = Ok(None);
+    let mut fed = 0;
+    for _ in 0..count {
+        said = order.next();
+        fed = fed_with(fed, said);
     }
-    match given {
-        Given::Refused(c) => Ran {
-            answer: parts::refused(c),
-            fed,
-        },
-        Given::Nothing => {
-            store(order, ws);
-            Ran {
-                answer: 0x8000_0000_0000_0000,
-                fed,
-            }
-        }
-        Given::Number(y) => {
-            store(order, ws);
-            Ran {
-                answer: y as u64,
-                fed,
-            }
-        }
+    keep(said.is_ok(), order, ws);
+    Ran {
+        answer: parts::number_or_none(said),
+        fed,
     }
 }
 
@@ -135,10 +123,9 @@ pub fn perillajamb_order_next(ws: &mut [u32]) -> u64
     ensures { crossed_one result ws.new ≡ next_order_crossed ws.old }
 {
     if ws.len() < 18 {
-        return parts::refused(4);
+        return parts::refused(Refusal::ShortMemory);
     }
-    let r = run(ws, 1);
-    r.answer
+    run(ws, 1).answer
 }
 
 fn numbers_fed(n: u32, key: u64, count: u32) -> u64
@@ -146,10 +133,9 @@ fn numbers_fed(n: u32, key: u64, count: u32) -> u64
     ensures { result ≡ fed_all 0 (take count (P key n)) }
 {
     let mut ws: [u32; 18] = [0; 18];
-    let s = ConsistentPermutation::new(n, key);
-    store(s.order, &mut ws);
-    let r = run(&mut ws, count);
-    r.fed
+    let order = ConsistentPermutation::new(n, key).unwrap();
+    store(order, &mut ws);
+    run(&mut ws, count).fed
 }
 
 // The first `count` numbers of the order of 0..n, as one number.
@@ -157,7 +143,7 @@ pub fn perillajamb_order_digest(n: u32, key: u64, count: u32) -> u64
     ensures { result ≡ coded_number (order_digest n key count) }
 {
     if ConsistentPermutation::N_LIMIT < n {
-        return parts::refused(1);
+        return parts::refused(Refusal::NAboveLimit);
     }
     numbers_fed(n, key, count) % 0x8000_0000_0000_0000
 }

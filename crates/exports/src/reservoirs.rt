@@ -1,16 +1,15 @@
 // Reservoirs for C and Rust. The record is six words that the caller keeps: the key's low and high 32 bits, k, n, the layer,
 // the used length.
-ghost use Rattle.std.specs.Prelude.{◌≡◌, ◌≤◌, length};
+ghost use Rattle.std.specs.Prelude.{◌≡◌, cond, ◌≤◌, length};
 ghost use Rattle.lists.specs.Lists.{written};
-ghost use Rattle.orders.specs.Outcomes.{told_outcome};
-ghost use Rattle.exports.specs.Coded.{coded_done};
 ghost use Rattle.exports.specs.Crossings.{crossed, crossed_one};
 ghost use Rattle.exports.specs.Reservoirs.{words_of, record_of, new_crossed, next_crossed, grow_crossed, sample_crossed, fits_crossed};
 
 use crate::parts;
-use orders::Outcome;
-use orders::consistent_reservoir::{ConsistentReservoir, Exchange, Opened};
+use answers::Refusal;
+use orders::consistent_reservoir::ConsistentReservoir;
 
+// C lends words of any length, so that there are six is tested once in each call, and asked for by those that read and write them.
 fn loaded(words: &[u32]) -> ConsistentReservoir
     requires { 6 ≤ length words.now }
     ensures { result ≡ record_of words.now }
@@ -36,12 +35,13 @@ fn store(r: ConsistentReservoir, words: &mut [u32])
     words[5] = r.used;
 }
 
-fn coded_outcome(o: Outcome) -> u64
-    ensures { result ≡ coded_done (told_outcome o) }
+// The record after a call, where that was not refused.
+fn keep(accepted: bool, r: ConsistentReservoir, words: &mut [u32])
+    requires { 6 ≤ length words.old }
+    ensures { words.new ≡ cond accepted (written (words_of r) words.old) words.old }
 {
-    match o {
-        Outcome::Done => 0,
-        Outcome::Refused(c) => parts::refused(c),
+    if accepted {
+        store(r, words);
     }
 }
 
@@ -56,15 +56,14 @@ pub fn perillajamb_reservoir_new(
     ensures { crossed result words.new list.new ≡ new_crossed k n key list.old words.old }
 {
     if words.len() < 6 {
-        let short = ConsistentReservoir::short_refusal(k, n);
-        return parts::refused(short);
+        return parts::refused(ConsistentReservoir::short_refusal(k, n));
     }
     match ConsistentReservoir::new(k, n, key, list) {
-        Opened::Made(r) => {
+        Ok(r) => {
             store(r, words);
             0
         }
-        Opened::Refused(c) => parts::refused(c),
+        Err(why) => parts::refused(why),
     }
 }
 
@@ -73,22 +72,12 @@ pub fn perillajamb_reservoir_next(words: &mut [u32], list: &mut [u32]) -> u64
     ensures { crossed result words.new list.new ≡ next_crossed words.old list.old }
 {
     if words.len() < 6 {
-        return parts::refused(4);
+        return parts::refused(Refusal::ShortMemory);
     }
-    let r = loaded(words);
-    let a = r.next(list);
-    let e = a.exchange;
-    match e {
-        Exchange::Refused(c) => parts::refused(c),
-        Exchange::Nothing => {
-            store(a.reservoir, words);
-            0x8000_0000_0000_0000
-        }
-        Exchange::InOut(v, x) => {
-            store(a.reservoir, words);
-            parts::joined(x, v)
-        }
-    }
+    let mut r = loaded(words);
+    let said = r.next(list);
+    keep(said.is_ok(), r, words);
+    parts::exchange(said)
 }
 
 // The step to the next layer.
@@ -96,18 +85,12 @@ pub fn perillajamb_reservoir_grow_layer(words: &mut [u32], list: &mut [u32]) -> 
     ensures { crossed result words.new list.new ≡ grow_crossed words.old list.old }
 {
     if words.len() < 6 {
-        return parts::refused(4);
+        return parts::refused(Refusal::ShortMemory);
     }
-    let r = loaded(words);
-    let a = r.grow_layer(list);
-    let e = a.outcome;
-    match e {
-        Outcome::Refused(c) => parts::refused(c),
-        Outcome::Done => {
-            store(a.reservoir, words);
-            0
-        }
-    }
+    let mut r = loaded(words);
+    let said = r.grow_layer(list);
+    keep(said.is_ok(), r, words);
+    parts::done(said)
 }
 
 // The sample, in the first k places of `out`.
@@ -115,11 +98,9 @@ pub fn perillajamb_reservoir_sample(words: &[u32], list: &[u32], out: &mut [u32]
     ensures { crossed_one result out.new ≡ sample_crossed words.now list.now out.old }
 {
     if words.len() < 6 {
-        return parts::refused(4);
+        return parts::refused(Refusal::ShortMemory);
     }
-    let r = loaded(words);
-    let o = r.reservoir(list, out);
-    coded_outcome(o)
+    parts::done(loaded(words).reservoir(list, out))
 }
 
 // Whether the record fits its list: 1 or 0.
@@ -127,11 +108,7 @@ pub fn perillajamb_reservoir_fits(words: &[u32], list: &[u32]) -> u64
     ensures { result ≡ fits_crossed words.now list.now }
 {
     if words.len() < 6 {
-        return parts::refused(4);
+        return parts::refused(Refusal::ShortMemory);
     }
-    let r = loaded(words);
-    if r.fits(list) {
-        return 1;
-    }
-    0
+    parts::yes(loaded(words).fits(list))
 }

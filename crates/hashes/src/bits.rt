@@ -17,7 +17,7 @@ pub(crate) fn remainder(x: u64, j: u32) -> u64
     x & ((1u64 << j) - 1)
 }
 
-// The place of the highest bit.
+// The place of the highest bit: by leading zeros, as document 01 asks, and not by `ilog2`.
 pub(crate) fn highest(x: u64) -> u32
     requires { 0 < x }
     ensures { (2 ^ result ≤ x) × (x < 2 ^ suc result) × (result < 64) }
@@ -25,7 +25,7 @@ pub(crate) fn highest(x: u64) -> u32
     63 - u64::leading_zeros(x)
 }
 
-// The place of the lowest bit.
+// The place of the lowest bit: by trailing zeros, as document 01 asks.
 pub(crate) fn lowest(x: u64) -> u32
     requires { 0 < x }
     ensures { (x % 2 ^ result ≡ 0) × (x / 2 ^ result % 2 ≡ 1) × (result < 64) }

@@ -70,7 +70,8 @@ impl ConsistentHasher {
     }
 }
 
-// Where the rising walk from n starts.
+// Where the rising walk from n starts. By the highest bit, since the library has no law that leads from `is_power_of_two`, a count of
+// ones, to a power.
 fn low_of(n: u64) -> u64
     requires { n ≤ 2 ^ 62 }
     ensures { result ≡ low n }

@@ -99,7 +99,9 @@ impl KeyedLayer {
     }
 }
 
-// A layer at x; refusal 12 where there is no such layer or x is not below its size.
+// A layer at x; refusal 12 where there is no such layer or x is not below its size. Inlined, so that the answer need not go through
+// memory.
+#[inline]
 pub fn layer_apply(layer: u32, key: u64, x: u32) -> Result<u32, Refusal>
     ensures { told result ≡ layer_apply layer key x }
 {

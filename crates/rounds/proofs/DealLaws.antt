@@ -8,34 +8,33 @@ use Prim.Native.Nat.{ℕ, ◌+◌, ◌<◌, ◌≤◌}
 use native.Mathlib.Numerals.{add-one}
 use native.Mathlib.Omega.{arith}
 use lib.ListN.{length, take, get_or, set, length-map}
-use lib.Seq.{take-suc, take-take}
+use lib.Seq.{take-suc, take-take, length-take-le}
+use Rattle.std.proofs.lemmas.List.{get_or-take}
+use Rattle.std.specs.Prelude as rust
 use Rattle.lists.specs.Lists.{keep, below, written}
+use Rattle.answers.specs.Refusals.{optional}
 use Rattle.lists.proofs.Tests.{below_yes, below_no}
 use Rattle.lists.proofs.Ascending.{length_snoc}
 use Rattle.lists.proofs.Members.{keep_append}
 use Rattle.lists.proofs.Prefixes.{keep_take_le}
-use Rattle.lists.proofs.Writing.{length_written, written_more}
+use Rattle.lists.proofs.Writing.{written_more}
 use Rattle.orders.specs.ReservoirCalls.{sample}
-use Rattle.choosers.specs.declared.node_map.Looked.{Looked}
-use Rattle.choosers.specs.declared.node_map.Looked.TheVariants as looked
 use Rattle.choosers.specs.Slots.{state_of}
-use Rattle.choosers.specs.SlotCalls.{look_up, told_looked}
+use Rattle.choosers.specs.SlotCalls.{look_up}
 use Rattle.rounds.specs.declared.round.Round.{Round}
 use Rattle.rounds.specs.Rounds.{reservoir_of}
 use Rattle.rounds.specs.InnerRounds.{dealt_to}
 
 -- ---- one location's slot
 
-module _ (key x total places s : ℕ) (t : List ℕ) (o : Looked) (e : s ≡ state_of key x) (f : told_looked o ≡ look_up total t s places) where
-  looked_up : Option.get_or (told_looked o) 0 ≡ dealt_to key total t places x
-  unfolding dealt_to
-  looked_up = ap (λ (z : Option ℕ). Option.get_or z 0) (f ∙ ap (λ (z : ℕ). look_up total t z places) e)
-
-  pub slot_found : (y : ℕ) → o ≡ looked.Found y → y ≡ dealt_to key total t places x
-  slot_found y g = ap (λ (z : Looked). Option.get_or (told_looked z) 0) (sym g) ∙ looked_up
-
-  pub slot_missing : o ≡ looked.Missing → 0 ≡ dealt_to key total t places x
-  slot_missing g = ap (λ (z : Looked). Option.get_or (told_looked z) 0) (sym g) ∙ looked_up
+pub slot_found : (key x total places s : ℕ) (t : List ℕ) (o : rust.Option ℕ) → s ≡ state_of key x → optional o ≡ look_up total t s places
+    → rust.unwrap_or o 0 ≡ dealt_to key total t places x
+unfolding dealt_to
+slot_found key x total places s t o e f = unwrapped o ∙ ap (λ (z : Option ℕ). Option.get_or z 0) (f ∙ ap (λ (z : ℕ). look_up total t z places) e)
+  where
+    unwrapped : (o : rust.Option ℕ) → rust.unwrap_or o 0 ≡ Option.get_or (optional o) 0
+    unwrapped (rust.Some y) = refl
+    unwrapped rust.None = refl
 
 -- the scratch is as long as it was lent
 pub slot_lent : (key total : ℕ) (t : List ℕ) (x s places lent : ℕ) → s ≡ dealt_to key total t places x → places ≡ lent → s ≡ dealt_to key total t lent x
@@ -75,53 +74,62 @@ dealt_start f n list ls ts = record { counted = refl; located = refl; served = r
 module _ (f : ℕ → ℕ) (r : Round) (list ls ts : List ℕ)
     (room : (r.used ≤ length list) × (length (sample (reservoir_of r) list) ≤ length ls) × (length (sample (reservoir_of r) list) ≤ length ts))
     (i p : ℕ) (locations terminals : List ℕ) (d : Dealt f r.n list ls ts i p locations terminals) where
-  pub dealt_lengths : i ≤ r.used → (length locations ≡ length ls) × (length terminals ≡ length ts)
-  unfolding sample
-  dealt_lengths h =
-      let xs = firsts r.n list i in
-      let b = firsts_le r.n list i r.used h in
-      let m = length-map xs f in
-      (ap length d.located ∙ length_written xs ls (omega arith), ap length d.served ∙ length_written (map f xs) ts (omega arith))
+  -- the numbers that the loop looks at are the first `used` of the list
+  used : length (take r.used list) ≡ r.used
+  used = length-take-le r.used list room.0
 
-  pub dealt_done : r.used ≤ i → i ≤ r.used → (locations ≡ written (sample (reservoir_of r) list) ls) × (terminals ≡ written (map f (sample (reservoir_of r) list)) ts)
+  pub dealt_done : length (take r.used list) ≤ i → i ≤ length (take r.used list)
+      → (locations ≡ written (sample (reservoir_of r) list) ls) × (terminals ≡ written (map f (sample (reservoir_of r) list)) ts)
   unfolding sample
   dealt_done g h =
-      let e : i ≡ r.used = omega arith in (
+      let e : i ≡ r.used = omega (arith, used) in (
         d.located ∙ ap (λ (j : ℕ). written (firsts r.n list j) ls) e,
         d.served ∙ ap (λ (j : ℕ). written (map f (firsts r.n list j)) ts) e,
       )
 
-  module _ (lt : i < r.used) where
-    pub dealt_room : get_or list i 0 < r.n → (p < length ls) × (p < length ts)
+  module _ (in_list : i < length (take r.used list)) where
+    lt : i < r.used
+    lt = omega (arith, used)
+
+    pub read : get_or (take r.used list) i 0 ≡ get_or list i 0
+    read = get_or-take r.used list i 0 lt
+
+    room_at : get_or list i 0 < r.n → (p < length ls) × (p < length ts)
     unfolding sample
-    dealt_room y =
-        let b = firsts_le r.n list (i + 1) r.used (omega arith) in
-        let e = ap length (firsts_yes r.n list i (omega arith) y) ∙ length_snoc (firsts r.n list i) (get_or list i 0) in
+    room_at y =
+        let b = firsts_le r.n list (i + 1) r.used (omega (arith, lt)) in
+        let e = ap length (firsts_yes r.n list i (omega (arith, lt)) y) ∙ length_snoc (firsts r.n list i) (get_or list i 0) in
         let c = d.counted in
         (omega arith, omega arith)
 
-    pub dealt_yes : get_or list i 0 < r.n → (s : ℕ) → s ≡ f (get_or list i 0)
-        → Dealt f r.n list ls ts (i + 1) (p + 1) (set locations p (get_or list i 0)) (set terminals p s)
-    dealt_yes y s e =
-        let x = get_or list i 0 in
-        let xs = firsts r.n list i in
-        let more : firsts r.n list (i + 1) ≡ xs ++ (x ∷ []) = firsts_yes r.n list i (omega arith) y in
-        let c = d.counted in
-        record {
-          counted = omega (arith, ap length more, length_snoc xs x);
-          located =
-              ap (λ (z : List ℕ). set z p x) d.located
-              ∙ written_more xs ls p x c (dealt_room y).0
-              ∙ ap (λ (z : List ℕ). written z ls) (sym more);
-          served =
-              (λ j. set (d.served j) p (e j))
-              ∙ written_more (map f xs) ts p (f x) (c ∙ sym (length-map xs f)) (dealt_room y).1
-              ∙ ap (λ (z : List ℕ). written z ts) (sym (ap (map f) more ∙ map-append f xs (x ∷ [])));
-        }
+    pub dealt_room : get_or (take r.used list) i 0 < r.n → (p < length ls) × (p < length ts)
+    dealt_room y = room_at (rw read at y)
 
-    pub dealt_no : r.n ≤ get_or list i 0 → Dealt f r.n list ls ts (i + 1) p locations terminals
+    pub dealt_yes : get_or (take r.used list) i 0 < r.n → (s : ℕ) → s ≡ f (get_or (take r.used list) i 0)
+        → Dealt f r.n list ls ts (i + 1) (p + 1) (set locations p (get_or (take r.used list) i 0)) (set terminals p s)
+    dealt_yes y s e = rw read (yes_at (rw read at y) (rw read at e))
+      where
+        yes_at : get_or list i 0 < r.n → s ≡ f (get_or list i 0) → Dealt f r.n list ls ts (i + 1) (p + 1) (set locations p (get_or list i 0)) (set terminals p s)
+        yes_at y e =
+            let x = get_or list i 0 in
+            let xs = firsts r.n list i in
+            let more : firsts r.n list (i + 1) ≡ xs ++ (x ∷ []) = firsts_yes r.n list i (omega (arith, lt)) y in
+            let c = d.counted in
+            record {
+              counted = omega (arith, ap length more, length_snoc xs x);
+              located =
+                  ap (λ (z : List ℕ). set z p x) d.located
+                  ∙ written_more xs ls p x c (room_at y).0
+                  ∙ ap (λ (z : List ℕ). written z ls) (sym more);
+              served =
+                  (λ j. set (d.served j) p (e j))
+                  ∙ written_more (map f xs) ts p (f x) (c ∙ sym (length-map xs f)) (room_at y).1
+                  ∙ ap (λ (z : List ℕ). written z ts) (sym (ap (map f) more ∙ map-append f xs (x ∷ [])));
+            }
+
+    pub dealt_no : r.n ≤ get_or (take r.used list) i 0 → Dealt f r.n list ls ts (i + 1) p locations terminals
     dealt_no y =
-        let same = sym (firsts_no r.n list i (omega arith) y) in
+        let same = sym (firsts_no r.n list i (omega (arith, lt)) (rw read at y)) in
         record {
           counted = d.counted ∙ ap length same;
           located = d.located ∙ ap (λ (z : List ℕ). written z ls) same;

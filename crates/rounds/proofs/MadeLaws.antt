@@ -5,20 +5,16 @@ use mathlib.Core.List.{List, ◌∷◌}
 use mathlib.Core.Option.{Option, none, some}
 use Prim.Native.Nat.{ℕ}
 use lib.ListN.{length}
+use Rattle.std.specs.Prelude.{Result, Ok, Err}
+use Rattle.std.specs.Prelude as rust
+use Rattle.answers.specs.declared.Refusal.{Refusal}
+use Rattle.answers.specs.Refusals.{told}
+use Rattle.answers.proofs.Tolds.{refusal_of, refusal_back, back, back_told}
 use Rattle.lists.specs.Told.{Told, refusal, says}
 use Rattle.orders.specs.declared.consistent_reservoir.Exchange.{Exchange}
-use Rattle.orders.specs.declared.consistent_reservoir.Exchange.TheVariants as exchange
 use Rattle.orders.specs.ReservoirCalls.{told_exchange}
-use Rattle.choosers.specs.declared.node_map.Slot.{Slot}
-use Rattle.choosers.specs.declared.node_map.Slot.TheVariants as slot
-use Rattle.choosers.specs.declared.node_map.Outcome.{Outcome}
-use Rattle.choosers.specs.declared.node_map.Outcome.TheVariants as outcome
-use Rattle.choosers.specs.SlotCalls.{told_slot, told_outcome}
 use Rattle.rounds.specs.declared.round.Round.{Round}
-use Rattle.rounds.specs.declared.round.Admission.{Admission}
-use Rattle.rounds.specs.declared.round.Joining.{Joining}
-use Rattle.rounds.specs.declared.round.Withdrawal.{Withdrawal}
-use Rattle.rounds.specs.Rounds.{State, state, After, after, admission, admit_call, joining, join_call, withdrawal, withdraw_call}
+use Rattle.rounds.specs.Rounds.{State, state, After, after, admit_call, join_call, withdraw_call}
 use Rattle.rounds.specs.Plans.{plan_call, shown_plan}
 use Rattle.rounds.specs.Ledgers.{Call, first_ledger, ledger_plan, fed_all}
 use Rattle.rounds.specs.Histories.{exchanged, slot_said, nothing_said, valued, call, after_all, all_said, Opens}
@@ -28,35 +24,17 @@ use Rattle.rounds.proofs.Demand3Laws.{demand_3}
 
 -- ---- what is left behind the reference is what is returned
 
--- an answer, back from what it tells
-unfoldable back_exchange : Told (Option (ℕ × ℕ)) → Exchange
-back_exchange (refusal w) = exchange.Refused w
-back_exchange (says none) = exchange.Nothing
-back_exchange (says (some p)) = exchange.InOut p.0 p.1
+-- an exchange, back from what it tells
+unfoldable back_exchange : Told (Option (ℕ × ℕ)) → Result (rust.Option Exchange) Refusal
+back_exchange (refusal w) = Err (refusal_of w)
+back_exchange (says none) = Ok rust.None
+back_exchange (says (some p)) = Ok (rust.Some (record { enters = p.0; leaves = p.1 }))
 
-back_exchange_lem : (e : Exchange) → back_exchange (told_exchange e) ≡ e
+back_exchange_lem : (e : Result (rust.Option Exchange) Refusal) → back_exchange (told_exchange e) ≡ e
 unfolding back_exchange
-back_exchange_lem (exchange.InOut v x) = refl
-back_exchange_lem exchange.Nothing = refl
-back_exchange_lem (exchange.Refused w) = refl
-
-unfoldable back_slot : Told ℕ → Slot
-back_slot (refusal w) = slot.Refused w
-back_slot (says x) = slot.Number x
-
-back_slot_lem : (y : Slot) → back_slot (told_slot y) ≡ y
-unfolding back_slot
-back_slot_lem (slot.Number x) = refl
-back_slot_lem (slot.Refused w) = refl
-
-unfoldable back_outcome : Told (Unit {0}) → Outcome
-back_outcome (refusal w) = outcome.Refused w
-back_outcome (says u) = outcome.Done
-
-back_outcome_lem : (o : Outcome) → back_outcome (told_outcome o) ≡ o
-unfolding back_outcome
-back_outcome_lem outcome.Done = refl
-back_outcome_lem (outcome.Refused w) = refl
+back_exchange_lem (Ok (rust.Some e)) = refl
+back_exchange_lem (Ok rust.None) = refl
+back_exchange_lem (Err w) = ap Err (refusal_back w)
 
 -- Two calls by one model on one state: the same answer, and the same record, list and table. By value it answers x and returns s; on
 -- the lent record it answers y and leaves t.
@@ -66,20 +44,20 @@ same_call told back is a x y s t p q =
     let e : after (told y) t ≡ after (told x) s = q ∙ sym p in
     (sym (is y) ∙ ap (λ (b : After _). back b.told) e ∙ is x, ap (λ (b : After _). b.state) e)
 
-pub same_admit : (s : State) (a : Admission) (l : List ℕ) (e : Exchange) (r : Round) (l' : List ℕ)
-    → admission a l s.table ≡ admit_call s → after (told_exchange e) (state r l' s.table) ≡ admit_call s
-    → (e ≡ a.exchange) × (state r l' s.table ≡ state a.round l s.table)
-same_admit s a l e r l' = same_call told_exchange back_exchange back_exchange_lem (admit_call s) a.exchange e (state a.round l s.table) (state r l' s.table)
+pub same_admit : (s : State) (a : Round × Result (rust.Option Exchange) Refusal) (l : List ℕ) (e : Result (rust.Option Exchange) Refusal) (r : Round) (l' : List ℕ)
+    → after (told_exchange a.1) (state a.0 l s.table) ≡ admit_call s → after (told_exchange e) (state r l' s.table) ≡ admit_call s
+    → (e ≡ a.1) × (state r l' s.table ≡ state a.0 l s.table)
+same_admit s a l e r l' = same_call told_exchange back_exchange back_exchange_lem (admit_call s) a.1 e (state a.0 l s.table) (state r l' s.table)
 
-pub same_join : (s : State) (a : Joining) (t : List ℕ) (y : Slot) (r : Round) (t' : List ℕ)
-    → joining a s.list t ≡ join_call s → after (told_slot y) (state r s.list t') ≡ join_call s
-    → (y ≡ a.slot) × (state r s.list t' ≡ state a.round s.list t)
-same_join s a t y r t' = same_call told_slot back_slot back_slot_lem (join_call s) a.slot y (state a.round s.list t) (state r s.list t')
+pub same_join : (s : State) (a : Round × Result ℕ Refusal) (t : List ℕ) (y : Result ℕ Refusal) (r : Round) (t' : List ℕ)
+    → after (told a.1) (state a.0 s.list t) ≡ join_call s → after (told y) (state r s.list t') ≡ join_call s
+    → (y ≡ a.1) × (state r s.list t' ≡ state a.0 s.list t)
+same_join s a t y r t' = same_call told back back_told (join_call s) a.1 y (state a.0 s.list t) (state r s.list t')
 
-pub same_withdraw : (s : State) (x : ℕ) (a : Withdrawal) (t : List ℕ) (o : Outcome) (r : Round) (t' : List ℕ)
-    → withdrawal a s.list t ≡ withdraw_call s x → after (told_outcome o) (state r s.list t') ≡ withdraw_call s x
-    → (o ≡ a.outcome) × (state r s.list t' ≡ state a.round s.list t)
-same_withdraw s x a t o r t' = same_call told_outcome back_outcome back_outcome_lem (withdraw_call s x) a.outcome o (state a.round s.list t) (state r s.list t')
+pub same_withdraw : (s : State) (x : ℕ) (a : Round × Result (Unit {0}) Refusal) (t : List ℕ) (o : Result (Unit {0}) Refusal) (r : Round) (t' : List ℕ)
+    → after (told a.1) (state a.0 s.list t) ≡ withdraw_call s x → after (told o) (state r s.list t') ≡ withdraw_call s x
+    → (o ≡ a.1) × (state r s.list t' ≡ state a.0 s.list t)
+same_withdraw s x a t o r t' = same_call told back back_told (withdraw_call s x) a.1 o (state a.0 s.list t) (state r s.list t')
 
 -- ---- a list of calls made either way
 

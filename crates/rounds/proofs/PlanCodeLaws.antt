@@ -15,10 +15,11 @@ use Rattle.lists.proofs.Tolds.{not_said, refusal_same}
 use Rattle.lists.proofs.Tests.{by_test}
 use Rattle.orders.specs.ReservoirCalls.{sample}
 use Rattle.orders.proofs.CheckLaws.{fits_parts}
-use Rattle.choosers.specs.declared.node_map.Truth.{Truth}
-use Rattle.choosers.specs.declared.node_map.Truth.TheVariants as truth
+use Rattle.std.specs.Prelude.{Result, Ok, Err}
+use Rattle.answers.specs.declared.Refusal.{Refusal}
+use Rattle.answers.specs.Refusals.{number, told}
 use Rattle.choosers.specs.Slots.{actives, state_of}
-use Rattle.choosers.specs.SlotCalls.{slot_limit, told_truth}
+use Rattle.choosers.specs.SlotCalls.{slot_limit}
 use Rattle.choosers.proofs.GetLaws.{look_all}
 use Rattle.rounds.specs.declared.round.Round.{Round}
 use Rattle.rounds.specs.Rounds.{reservoir_of, map_of, state, fitting}
@@ -35,22 +36,22 @@ pub record Ready (r : Round) (l t : List ℕ) (idle : Bool) : Type 0 where
   pub fits : fitting (state r l t) ≡ true
   pub none : eqb (length (actives t r.total)) 0 ≡ idle
 
-module _ (r : Round) (l t : List ℕ) (b : Truth) (told : told_truth b ≡ idle_of (state r l t)) where
-  pub is_ready : (idle : Bool) → b ≡ truth.Is idle → Ready r l t idle
+module _ (r : Round) (l t : List ℕ) (b : Result Bool Refusal) (is : told b ≡ idle_of (state r l t)) where
+  pub is_ready : (idle : Bool) → b ≡ Ok idle → Ready r l t idle
   unfolding idle_of
   is_ready idle e =
-      let s : says idle ≡ idle_of (state r l t) = ap told_truth (sym e) ∙ told in
+      let s : says idle ≡ idle_of (state r l t) = ap told (sym e) ∙ is in
       by_test (fitting (state r l t))
       (λ y. record { fits = y; none = same_truth _ _ (sym (rw y at s)) })
       (λ m. not_said 12 idle (sym (rw m at s)))
 
-  pub is_unfit : (w : ℕ) → b ≡ truth.Refused w → (fitting (state r l t) ≡ false) × (w ≡ 12)
+  pub is_unfit : (w : Refusal) → b ≡ Err w → (fitting (state r l t) ≡ false) × (number w ≡ 12)
   unfolding idle_of
   is_unfit w e =
-      let s : refusal w ≡ idle_of (state r l t) = ap told_truth (sym e) ∙ told in
+      let s : refusal (number w) ≡ idle_of (state r l t) = ap told (sym e) ∙ is in
       by_test (fitting (state r l t))
-      (λ y. not_said w _ (rw y at s))
-      (λ m. (m, refusal_same w 12 (rw m at s)))
+      (λ y. not_said (number w) _ (rw y at s))
+      (λ m. (m, refusal_same (number w) 12 (rw m at s)))
 
 -- the sample is k long, so there is room for it
 pub deal_room : (r : Round) (l t ls ts : List ℕ) (idle : Bool) → Ready r l t idle → r.k ≤ length ls → r.k ≤ length ts

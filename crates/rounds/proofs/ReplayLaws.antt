@@ -16,12 +16,13 @@ use Rattle.lists.proofs.Tests.{by_below, by_cond}
 use Rattle.lists.proofs.Writing.{length_written}
 use Rattle.orders.proofs.ReservoirLaws.{sample_length}
 use Rattle.orders.specs.ReservoirCalls.{short_refusal}
-use Rattle.choosers.specs.declared.node_map.Outcome.{Outcome}
-use Rattle.choosers.specs.declared.node_map.Outcome.TheVariants as outcome
+use Rattle.std.specs.Prelude.{Result, Ok, Err}
+use Rattle.answers.specs.declared.Refusal.{Refusal}
+use Rattle.answers.specs.Refusals.{told}
 use Rattle.choosers.specs.SlotCalls as Slots
 use Rattle.rounds.specs.declared.round.Round.{Round}
 use Rattle.rounds.specs.Rounds.{reservoir_of, State, state, After, AfterOpen, after_open, open_call, fitting}
-use Rattle.rounds.specs.Plans.{AfterPlan, after_plan, told_outcome, sampled, terminal_of, plan_call, shown_plan}
+use Rattle.rounds.specs.Plans.{AfterPlan, after_plan, sampled, terminal_of, plan_call, shown_plan}
 use Rattle.rounds.specs.Ledgers.{Call, admit, join, withdraw, Ledger, first_ledger, ledger_plan, fed, fed_all}
 use Rattle.rounds.specs.Histories.{nothing_said, call, after_all, all_said, Opens}
 use Rattle.rounds.specs.Demand3.{Agree, Enough, Follows}
@@ -174,9 +175,9 @@ module _ (key k n : ℕ) (codes t ws ls ts : List ℕ) (places : ℕ) where
       (λ unknown. refused_good 12 (after_replay (refusal 12) l t ws ls ts) refl)
 
 -- the second clause of replay's promise follows from the first
-pub replay_ledger : (key k n : ℕ) (codes l t ws ls ts : List ℕ) (places : ℕ) (o : Outcome) (l' t' ws' ls' ts' : List ℕ)
-    → after_replay (told_outcome o) l' t' ws' ls' ts' ≡ replay_call key k n codes l t ws ls ts places
+pub replay_ledger : (key k n : ℕ) (codes l t ws ls ts : List ℕ) (places : ℕ) (o : Result (Unit {0}) Refusal) (l' t' ws' ls' ts' : List ℕ)
+    → after_replay (told o) l' t' ws' ls' ts' ≡ replay_call key k n codes l t ws ls ts places
     → Replayed o key k n codes (length t) places ws' ls' ts'
-replay_ledger key k n codes l t ws ls ts places (outcome.Refused w) l' t' ws' ls' ts' e = tt
-replay_ledger key k n codes l t ws ls ts places outcome.Done l' t' ws' ls' ts' e =
+replay_ledger key k n codes l t ws ls ts places (Err w) l' t' ws' ls' ts' e = tt
+replay_ledger key k n codes l t ws ls ts places (Ok u) l' t' ws' ls' ts' e =
     subst (Good key k n codes t ws ls ts places) (sym e) (replay_good key k n codes t ws ls ts places l) refl

@@ -1,34 +1,30 @@
 -- A call by its number, the answers written one after the other, and what replay leaves by its tests.
 -- Assumes nothing.
 use mathlib.Core.Path.{◌≡◌, refl, sym, ap, ◌∙◌}
-use mathlib.Core.Bool.{Bool, true, false}
+use mathlib.Core.Bool.{Bool, true, false, true≢false}
 use mathlib.Core.List.{List, [], ◌∷◌, ◌++◌, map, append_assoc, append-nil}
-use Prim.Native.Nat.{ℕ, suc, ◌+◌, ◌*◌, ◌/◌, ◌%◌, ◌^◌, ◌≤◌, ◌<◌}
+use Prim.Native.Nat.{ℕ, ◌+◌, ◌*◌, ◌/◌, ◌≤◌, ◌<◌}
 use native.Mathlib.Numerals.{add-one}
 use native.Mathlib.Omega.{arith}
-use borrow.Author.Tests.{eq-eqb, ne_eqb, lt-ltb, le-ltb}
-use lib.ListN.{length, take, drop, get_or, set, length-append, length-map, drop_of_length-le}
-use lib.Seq.{drop-cons, drop-append-add, drop-drop, sets-eq, take_at, get_or_at, length-take-le}
+use borrow.Author.Tests.{lt-ltb, le-ltb}
+use lib.ListN.{length, take, drop, get_or, length-append, length-map, drop_of_length-le}
+use lib.Seq.{drop-cons, drop-append-add, drop-drop, take_at, get_or_at, length-take-le}
 use Rattle.lists.specs.Told.{Told, refusal, says, map_told}
+use Rattle.std.proofs.Math.Seq.{take-length}
 use Rattle.lists.specs.Lists.{every, written}
-use Rattle.orders.specs.ReservoirCalls.{told_exchange, short_refusal}
-use Rattle.choosers.specs.declared.node_map.Outcome.{Outcome}
-use Rattle.choosers.specs.declared.node_map.Outcome.TheVariants as outcome
-use Rattle.choosers.specs.SlotCalls.{told_slot}
-use Rattle.rounds.specs.declared.replays.Answer.{Answer}
-use Rattle.rounds.specs.declared.replays.Called.{Called}
+use Rattle.lists.proofs.Ranges.{every_place}
+use Rattle.orders.specs.ReservoirCalls.{short_refusal}
+use Rattle.std.specs.Prelude.{Result, Ok, Err, is_ok, is_err}
+use Rattle.answers.specs.declared.Refusal.{Refusal}
+use Rattle.answers.specs.Refusals.{number, told}
+use Rattle.rounds.specs.declared.replays.Call as numbered
 use Rattle.rounds.specs.declared.round.Round.{Round}
-use Rattle.rounds.specs.declared.round.Opened.{Opened}
-use Rattle.rounds.specs.declared.round.Opened.TheVariants as opened
-use Rattle.rounds.specs.declared.round.Admission.{Admission}
-use Rattle.rounds.specs.declared.round.Joining.{Joining}
-use Rattle.rounds.specs.declared.round.Withdrawal.{Withdrawal}
-use Rattle.rounds.specs.Rounds.{State, state, after_open, told_opened, open_call, admission, admit_call, joining, join_call, withdrawal, withdraw_call}
-use Rattle.rounds.specs.Plans.{told_outcome, after_plan, plan_call, ScratchAfter}
+use Rattle.rounds.specs.Rounds.{State, state, after_open, open_call}
+use Rattle.rounds.specs.Plans.{after_plan, plan_call, ScratchAfter}
 use Rattle.rounds.specs.Ledgers.{Call}
-use Rattle.rounds.specs.Histories.{exchanged, slot_said, nothing_said, call, after_all, all_said}
+use Rattle.rounds.specs.Histories.{nothing_said, call, after_all, all_said}
 use Rattle.rounds.specs.Replays.{known, call_of, coded, coded_all, after_replay, run_of, replay_call, ScratchRun}
-use Rattle.rounds.specs.InnerReplays.{words_of, placed_at, Stepped, stepped, step_of}
+use Rattle.rounds.specs.InnerReplays.{as_call, Reads, placed_at, Stepped, stepped, step_of}
 
 -- ---- the test of the numbers, from place i on
 
@@ -49,34 +45,28 @@ pub known_end : (codes : List ℕ) (i : ℕ) {b : Bool} → length codes ≤ i �
 unfolding every
 known_end codes i h e = rw (drop_of_length-le codes h) at e
 
--- ---- one call by its number, on s: its answer's four numbers are w, and it leaves l and b
+pub known_at : (codes : List ℕ) (i : ℕ) → every known codes ≡ true → i < length codes → known (get_or codes i 0) ≡ true
+known_at codes i e h = every_place known codes (length codes) i (rw (take-length codes) e) h h
 
-module _ (code : ℕ) (s : State) (w : Answer) (l b : List ℕ) where
-  pub step_admit : (a : Admission) → code ≡ 0 → admission a l b ≡ admit_call s → words_of w ≡ coded (map_told exchanged (told_exchange a.exchange))
-      → stepped (record { round = a.round; answer = w }) l b ≡ step_of code s
-  unfolding step_of call_of call
-  step_admit a z e f = rw (eq-eqb code 0 z, ← e, f)
+-- ---- a number as a call
 
-  pub step_join : (a : Joining) → (code ≡ 0 → ⊥) → code ≡ 1 → joining a l b ≡ join_call s → words_of w ≡ coded (map_told slot_said (told_slot a.slot))
-      → stepped (record { round = a.round; answer = w }) l b ≡ step_of code s
-  unfolding step_of call_of call
-  step_join a y z e f = rw (ne_eqb code 0 y, eq-eqb code 1 z, ← e, f)
+-- read, or not known
+pub read_call : (x : ℕ) (c : numbered.Call) (r : Result numbered.Call Refusal) → Reads x r → r ≡ Ok c → as_call c ≡ call_of x
+read_call x c r p e = (rw e at p).1
 
-  pub step_withdraw : (a : Withdrawal) → (code ≡ 0 → ⊥) → (code ≡ 1 → ⊥) → withdrawal a l b ≡ withdraw_call s (code % 2 ^ 32)
-      → words_of w ≡ coded (map_told nothing_said (told_outcome a.outcome)) → stepped (record { round = a.round; answer = w }) l b ≡ step_of code s
-  unfolding step_of call_of call
-  step_withdraw a y z e f = rw (ne_eqb code 0 y, ne_eqb code 1 z, ← e, f)
+pub reads_known : (x : ℕ) (r : Result numbered.Call Refusal) → Reads x r → is_err r ≡ false → known x ≡ true
+reads_known x (Ok c) p e = p.0
+reads_known x (Err w) p e = let z : true ≡ false = e in absurd (true≢false z)
+
+pub reads_unknown : (x : ℕ) (r : Result numbered.Call Refusal) → Reads x r → is_err r ≡ true → known x ≡ false
+reads_unknown x (Ok c) p e = let z : true ≡ false = sym e in absurd (true≢false z)
+reads_unknown x (Err w) p e = p.0
+
+pub reads_ok : (x : ℕ) (r : Result numbered.Call Refusal) → Reads x r → known x ≡ true → is_ok r ≡ true
+reads_ok x (Ok c) p y = refl
+reads_ok x (Err w) p y = absurd (true≢false (sym y ∙ p.0))
 
 -- ---- four numbers over the places from p on
-
--- stored one after the other
-pub placed_stores : (p a b c d : ℕ) (l : List ℕ) → p + 4 ≤ length l → set (set (set (set l p a) (p + 1) b) (p + 2) c) (p + 3) d ≡ placed_at p (a ∷ b ∷ c ∷ d ∷ []) l
-unfolding placed_at
-placed_stores p a b c d l h =
-    let one : p + 1 ≡ suc p = omega arith in
-    let two : p + 2 ≡ suc (suc p) = omega arith in
-    let three : p + 3 ≡ suc (suc (suc p)) = omega arith in
-    rw (one, two, three) (sets-eq (a ∷ b ∷ c ∷ d ∷ []) l p h)
 
 -- behind what was written before
 pub placed_behind : (p : ℕ) (xs ys ws : List ℕ) → length xs ≡ p → placed_at p ys (written xs ws) ≡ written (xs ++ ys) ws
@@ -101,24 +91,27 @@ placed_all p s (x ∷ xs) ws = placed_all (p + 4) (call s x).state xs (placed_at
 abbrev pub calls_from : ℕ → List ℕ → List Call
 calls_from i codes = map call_of (drop i codes)
 
--- a turn: step t on s, which leaves l and b
-module _ (codes : List ℕ) (i : ℕ) (h : i < length codes) (s : State) (t : Called) (l b : List ℕ) (e : stepped t l b ≡ step_of (get_or codes i 0) s) where
-  pub after_turn : {end : State} → after_all s (calls_from i codes) ≡ end → after_all (state t.round l b) (calls_from (i + 1) codes) ≡ end
-  unfolding after_all step_of
-  after_turn w =
-      ap (λ (z : Stepped). after_all z.state (calls_from (i + 1) codes)) e
-      ∙ rw (rest_cons codes i h) at w
+-- a turn: the i-th call on s, whose answer's four numbers are w, and which leaves u
+module _ (codes : List ℕ) (i : ℕ) (h : i < length codes) (s u : State) (c : Call) (w : List ℕ) (is : c ≡ call_of (get_or codes i 0)) (e : stepped w u ≡ step_of c s) where
+  stepped_by : stepped w u ≡ step_of (call_of (get_or codes i 0)) s
+  stepped_by = e ∙ ap (λ (x : Call). step_of x s) is
 
-  pub placed_turn : (ws ws' : List ℕ) {end : List ℕ} → ws' ≡ placed_at (4 * i) (words_of t.answer) ws
-      → placed_all (4 * i) s (calls_from i codes) ws ≡ end → placed_all (4 * (i + 1)) (state t.round l b) (calls_from (i + 1) codes) ws' ≡ end
+  pub after_turn : {end : State} → after_all s (calls_from i codes) ≡ end → after_all u (calls_from (i + 1) codes) ≡ end
+  unfolding after_all step_of
+  after_turn q =
+      ap (λ (z : Stepped). after_all z.state (calls_from (i + 1) codes)) stepped_by
+      ∙ rw (rest_cons codes i h) at q
+
+  pub placed_turn : (ws ws' : List ℕ) {end : List ℕ} → ws' ≡ placed_at (4 * i) w ws
+      → placed_all (4 * i) s (calls_from i codes) ws ≡ end → placed_all (4 * (i + 1)) u (calls_from (i + 1) codes) ws' ≡ end
   unfolding placed_all step_of
-  placed_turn ws ws' put w =
+  placed_turn ws ws' put q =
       let p : 4 * (i + 1) ≡ 4 * i + 4 = omega arith in
       let rest = calls_from (i + 1) codes in
-      ap (λ (k : ℕ). placed_all k (state t.round l b) rest ws') p
-      ∙ ap (λ (r : List ℕ). placed_all (4 * i + 4) (state t.round l b) rest r) put
-      ∙ ap (λ (z : Stepped). placed_all (4 * i + 4) z.state rest (placed_at (4 * i) z.words ws)) e
-      ∙ rw (rest_cons codes i h) at w
+      ap (λ (k : ℕ). placed_all k u rest ws') p
+      ∙ ap (λ (r : List ℕ). placed_all (4 * i + 4) u rest r) put
+      ∙ ap (λ (z : Stepped). placed_all (4 * i + 4) z.state rest (placed_at (4 * i) z.words ws)) stepped_by
+      ∙ rw (rest_cons codes i h) at q
 
 -- the end
 module _ (codes : List ℕ) (i : ℕ) (h : length codes ≤ i) (s : State) where
@@ -157,19 +150,19 @@ said_length s (x ∷ calls) =
 -- ---- the calls and the plan after them
 
 -- The calls leave the round r, l and t, and the answers us; then the plan says o, and its answer a is placed behind the others.
-pub run_is : (s : State) (codes : List ℕ) (r : Round) (l t ws us ls ts : List ℕ) (places : ℕ) (o : Outcome) (a : Answer) (ws' ls' ts' : List ℕ)
+pub run_is : (s : State) (codes : List ℕ) (r : Round) (l t ws us ls ts : List ℕ) (places : ℕ) (o : Result (Unit {0}) Refusal) (a ws' ls' ts' : List ℕ)
     → state r l t ≡ after_all s (map call_of codes)
     → us ≡ written (coded_all (all_said s (map call_of codes))) ws
-    → after_plan (told_outcome o) ls' ts' ≡ plan_call (state r l t) ls ts places
-    → words_of a ≡ coded (map_told nothing_said (told_outcome o))
-    → ws' ≡ placed_at (4 * length codes) (words_of a) us
+    → after_plan (told o) ls' ts' ≡ plan_call (state r l t) ls ts places
+    → a ≡ coded (map_told nothing_said (told o))
+    → ws' ≡ placed_at (4 * length codes) a us
     → after_replay (says tt) l t ws' ls' ts' ≡ run_of s (map call_of codes) ws ls ts places
 unfolding run_of
 run_is s codes r l t ws us ls ts places o a ws' ls' ts' ends said planned words put =
     let calls = map call_of codes in
     let long : length (coded_all (all_said s calls)) ≡ 4 * length codes = said_length s calls ∙ ap (λ (k : ℕ). 4 * k) (length-map codes call_of) in
-    let answers : ws' ≡ written (coded_all (all_said s calls) ++ coded (map_told nothing_said (told_outcome o))) ws =
-    rw (put, words, said) (placed_behind (4 * length codes) (coded_all (all_said s calls)) (coded (map_told nothing_said (told_outcome o))) ws long) in
+    let answers : ws' ≡ written (coded_all (all_said s calls) ++ coded (map_told nothing_said (told o))) ws =
+    rw (put, words, said) (placed_behind (4 * length codes) (coded_all (all_said s calls)) (coded (map_told nothing_said (told o))) ws long) in
     rw (answers, ← ends, ← planned)
 
 placed_first : (p a b c d : ℕ) (l : List ℕ) → p ≤ length l → get_or (placed_at p (a ∷ b ∷ c ∷ d ∷ []) l) p 0 ≡ a
@@ -177,13 +170,13 @@ unfolding placed_at
 placed_first p a b c d l h = rw (append_assoc (take p l) (a ∷ b ∷ c ∷ d ∷ []) (drop (p + 4) l)) (get_or_at (take p l) a (b ∷ c ∷ d ∷ drop (p + 4) l) 0 p (length-take-le p l h))
 
 -- the plan's answer tells whether the plan was refused, and so whether the scratch is as it was
-pub run_scratch : (c : ℕ) (o : Outcome) (a : Answer) (us ws before now : List ℕ) → 4 * c ≤ length us → words_of a ≡ coded (map_told nothing_said (told_outcome o))
-    → ws ≡ placed_at (4 * c) (words_of a) us → ScratchAfter o before now → ScratchRun c ws before now
-run_scratch c outcome.Done a us ws before now h words put kept =
+pub run_scratch : (c : ℕ) (o : Result (Unit {0}) Refusal) (a us ws before now : List ℕ) → 4 * c ≤ length us → a ≡ coded (map_told nothing_said (told o))
+    → ws ≡ placed_at (4 * c) a us → ScratchAfter o before now → ScratchRun c ws before now
+run_scratch c (Ok u) a us ws before now h words put kept =
     let first : get_or ws (4 * c) 0 ≡ 0 =
-    ap (λ (l : List ℕ). get_or l (4 * c) 0) put ∙ placed_first (4 * c) a.refused a.values a.first a.second us h ∙ ap (λ (l : List ℕ). get_or l 0 0) words in
+    ap (λ (l : List ℕ). get_or l (4 * c) 0) (rw words at put) ∙ placed_first (4 * c) 0 0 0 0 us h in
     (kept, λ accepted. absurd (accepted first))
-run_scratch c (outcome.Refused w) a us ws before now h words put kept = (ap length kept, λ refused. kept)
+run_scratch c (Err w) a us ws before now h words put kept = (ap length kept, λ refused. kept)
 
 -- ---- replay, by its tests
 
@@ -197,12 +190,12 @@ module _ (key k n : ℕ) (codes l t ws ls ts : List ℕ) (places : ℕ) where
   replay_short y m w e = rw (y, lt-ltb (length ws) (4 * length codes + 4) (omega arith), e)
 
   -- what open said, and the list that it left
-  module _ (y : every known codes ≡ true) (long : length codes < length ws / 4) (o : Opened) (l' : List ℕ) (opens : after_open (told_opened o) l' ≡ open_call key k n l) where
-    pub replay_refused : (w : ℕ) → o ≡ opened.Refused w → after_replay (refusal w) l' t ws ls ts ≡ replay_call key k n codes l t ws ls ts places
+  module _ (y : every known codes ≡ true) (long : length codes < length ws / 4) (o : Result Round Refusal) (l' : List ℕ) (opens : after_open (told o) l' ≡ open_call key k n l) where
+    pub replay_refused : (w : Refusal) → o ≡ Err w → after_replay (refusal (number w)) l' t ws ls ts ≡ replay_call key k n codes l t ws ls ts places
     unfolding replay_call
     replay_refused w m = rw (y, le-ltb (length ws) (4 * length codes + 4) (omega arith), ← opens, m)
 
-    pub replay_run : (r : Round) (l'' t' ws' ls' ts' : List ℕ) → o ≡ opened.Made r
+    pub replay_run : (r : Round) (l'' t' ws' ls' ts' : List ℕ) → o ≡ Ok r
         → after_replay (says tt) l'' t' ws' ls' ts' ≡ run_of (state r l' t) (map call_of codes) ws ls ts places
         → after_replay (says tt) l'' t' ws' ls' ts' ≡ replay_call key k n codes l t ws ls ts places
     unfolding replay_call

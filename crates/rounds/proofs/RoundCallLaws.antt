@@ -6,39 +6,37 @@ use mathlib.Core.List.{List}
 use Prim.Native.Nat.{ℕ}
 use lib.Dec.{eqb}
 use lib.ListN.{length}
+use Rattle.std.specs.Prelude.{Option, Result, Ok, Err}
 use Rattle.lists.specs.Told.{refusal, says, map_told}
+use Rattle.answers.specs.declared.Refusal.{Refusal}
+use Rattle.answers.specs.Refusals.{number, told}
 use Rattle.lists.proofs.Tests.{by_test}
 use Rattle.lists.proofs.Keeping.{both}
 use Rattle.orders.specs.declared.consistent_reservoir.ConsistentReservoir.{ConsistentReservoir}
-use Rattle.orders.specs.declared.consistent_reservoir.Opened.{Opened}
-use Rattle.orders.specs.declared.consistent_reservoir.Opened.TheVariants as opened
-use Rattle.orders.specs.declared.consistent_reservoir.Admitted.{Admitted}
+use Rattle.orders.specs.declared.consistent_reservoir.Exchange.{Exchange}
 use Rattle.orders.specs.ReservoirCalls as Reservoir
 use Rattle.orders.proofs.AdmissionLaws.{admit_unfit}
 use Rattle.choosers.specs.declared.node_map.ConsistentNodeMap.{ConsistentNodeMap}
-use Rattle.choosers.specs.declared.node_map.Added.{Added}
-use Rattle.choosers.specs.declared.node_map.Removed.{Removed}
-use Rattle.choosers.specs.declared.node_map.Truth.{Truth}
 use Rattle.choosers.specs.Slots.{actives}
 use Rattle.choosers.specs.SlotCalls as Slots
 use Rattle.choosers.proofs.SlotCallLaws.{add_unfit, remove_unfit, query_unfit, query_fit}
 use Rattle.rounds.specs.declared.round.Round.{Round}
-use Rattle.rounds.specs.Rounds.{reservoir_of, map_of, state, fitting, after_open, open_call, refused, by_reservoir, by_slots, admission, admit_call, joining, join_call, withdrawal, withdraw_call}
+use Rattle.rounds.specs.Rounds.{reservoir_of, map_of, state, fitting, after_open, open_call, refused, by_reservoir, by_slots, after, admit_call, join_call, withdraw_call}
 use Rattle.rounds.specs.InnerRounds.{begun, with_reservoir, with_map, idle_of}
 
 -- ---- open
 
 -- what the reservoir's open says and leaves, as the round's
-module _ (key k n : ℕ) (l after : List ℕ) (o : Opened) (is : Reservoir.after_open (Reservoir.told_opened o) after ≡ Reservoir.open_call k n key l) where
-  open_by : after_open (map_told begun (Reservoir.told_opened o)) after ≡ open_call key k n l
+module _ (key k n : ℕ) (l after : List ℕ) (o : Result ConsistentReservoir Refusal) (is : Reservoir.after_open (told o) after ≡ Reservoir.open_call k n key l) where
+  open_by : after_open (map_told begun (told o)) after ≡ open_call key k n l
   unfolding open_call
   open_by = ap (λ (x : Reservoir.AfterOpen). after_open (map_told begun x.told) x.list) is
 
-  pub open_made : (a : ConsistentReservoir) (r : Round) → o ≡ opened.Made a → r ≡ begun a → after_open (says r) after ≡ open_call key k n l
-  open_made a r e f = ap (λ (x : Round). after_open (says x) after) f ∙ ap (λ (x : Opened). after_open (map_told begun (Reservoir.told_opened x)) after) (sym e) ∙ open_by
+  pub open_made : (a : ConsistentReservoir) (r : Round) → o ≡ Ok a → r ≡ begun a → after_open (says r) after ≡ open_call key k n l
+  open_made a r e f = ap (λ (x : Round). after_open (says x) after) f ∙ ap (λ (x : Result ConsistentReservoir Refusal). after_open (map_told begun (told x)) after) (sym e) ∙ open_by
 
-  pub open_refused : (w : ℕ) → o ≡ opened.Refused w → after_open (refusal w) after ≡ open_call key k n l
-  open_refused w e = ap (λ (x : Opened). after_open (map_told begun (Reservoir.told_opened x)) after) (sym e) ∙ open_by
+  pub open_refused : (w : Refusal) → o ≡ Err w → after_open (refusal (number w)) after ≡ open_call key k n l
+  open_refused w e = ap (λ (x : Result ConsistentReservoir Refusal). after_open (map_told begun (told x)) after) (sym e) ∙ open_by
 
 -- ---- the test of refusal 12
 
@@ -92,12 +90,12 @@ module _ (r : Round) (l t : List ℕ) where
       (λ y. rw (table_fit ok, y))
       (λ m. rw (table_fit ok, m, admit_unfit (reservoir_of r) l m))
 
-  pub admit_code : Slots.fitting (map_of r) t ≡ true → (a : ConsistentReservoir) (b : Admitted) (after : List ℕ) (s : Round)
-      → a ≡ reservoir_of r → Reservoir.admitted b after ≡ Reservoir.admit_call a l → s ≡ with_reservoir r b.reservoir
-      → admission (record { round = s; exchange = b.exchange }) after t ≡ admit_call (state r l t)
-  admit_code ok a b after s e f g =
-      ap (λ (x : Round). admission (record { round = x; exchange = b.exchange }) after t) g
-      ∙ ap (by_reservoir (state r l t)) (f ∙ ap (λ (x : ConsistentReservoir). Reservoir.admit_call x l) e)
+  pub admit_code : Slots.fitting (map_of r) t ≡ true → (a b : ConsistentReservoir) (e : Result (Option Exchange) Refusal) (l' : List ℕ) (s : Round)
+      → a ≡ reservoir_of r → Reservoir.after (Reservoir.told_exchange e) b l' ≡ Reservoir.admit_call a l → s ≡ with_reservoir r b
+      → after (Reservoir.told_exchange e) (state s l' t) ≡ admit_call (state r l t)
+  admit_code ok a b e l' s f g h =
+      ap (λ (x : Round). after (Reservoir.told_exchange e) (state x l' t)) h
+      ∙ ap (by_reservoir (state r l t)) (g ∙ ap (λ (x : ConsistentReservoir). Reservoir.admit_call x l) f)
       ∙ admit_by ok
 
   -- ---- join
@@ -114,12 +112,12 @@ module _ (r : Round) (l t : List ℕ) where
       (λ y. rw (list_fit ok, y))
       (λ m. rw (list_fit ok, m, add_unfit (map_of r) t m))
 
-  pub join_code : Reservoir.fitting (reservoir_of r) l ≡ true → (m : ConsistentNodeMap) (b : Added) (after : List ℕ) (s : Round)
-      → m ≡ map_of r → Slots.added b after ≡ Slots.add_call m t → s ≡ with_map r b.map
-      → joining (record { round = s; slot = b.slot }) l after ≡ join_call (state r l t)
-  join_code ok m b after s e f g =
-      ap (λ (x : Round). joining (record { round = x; slot = b.slot }) l after) g
-      ∙ ap (by_slots (state r l t)) (f ∙ ap (λ (x : ConsistentNodeMap). Slots.add_call x t) e)
+  pub join_code : Reservoir.fitting (reservoir_of r) l ≡ true → (m b : ConsistentNodeMap) (y : Result ℕ Refusal) (t' : List ℕ) (s : Round)
+      → m ≡ map_of r → Slots.after (told y) b t' ≡ Slots.add_call m t → s ≡ with_map r b
+      → after (told y) (state s l t') ≡ join_call (state r l t)
+  join_code ok m b y t' s f g h =
+      ap (λ (x : Round). after (told y) (state x l t')) h
+      ∙ ap (by_slots (state r l t)) (g ∙ ap (λ (x : ConsistentNodeMap). Slots.add_call x t) f)
       ∙ join_by ok
 
   -- ---- withdraw
@@ -136,12 +134,12 @@ module _ (r : Round) (l t : List ℕ) where
         (λ y. rw (list_fit ok, y))
         (λ m. rw (list_fit ok, m, remove_unfit (map_of r) t x m))
 
-    pub withdraw_code : Reservoir.fitting (reservoir_of r) l ≡ true → (m : ConsistentNodeMap) (b : Removed) (after : List ℕ) (s : Round)
-        → m ≡ map_of r → Slots.removed b after ≡ Slots.remove_call m t x → s ≡ with_map r b.map
-        → withdrawal (record { round = s; outcome = b.outcome }) l after ≡ withdraw_call (state r l t) x
-    withdraw_code ok m b after s e f g =
-        ap (λ (y : Round). withdrawal (record { round = y; outcome = b.outcome }) l after) g
-        ∙ ap (by_slots (state r l t)) (f ∙ ap (λ (y : ConsistentNodeMap). Slots.remove_call y t x) e)
+    pub withdraw_code : Reservoir.fitting (reservoir_of r) l ≡ true → (m b : ConsistentNodeMap) (o : Result (Unit {0}) Refusal) (t' : List ℕ) (s : Round)
+        → m ≡ map_of r → Slots.after (told o) b t' ≡ Slots.remove_call m t x → s ≡ with_map r b
+        → after (told o) (state s l t') ≡ withdraw_call (state r l t) x
+    withdraw_code ok m b o t' s f g h =
+        ap (λ (y : Round). after (told o) (state y l t')) h
+        ∙ ap (by_slots (state r l t)) (g ∙ ap (λ (y : ConsistentNodeMap). Slots.remove_call y t x) f)
         ∙ withdraw_by ok
 
   -- ---- whether no slot is active
@@ -158,6 +156,6 @@ module _ (r : Round) (l t : List ℕ) where
       (λ y. query_fit (map_of r) t none y ∙ rw (list_fit ok, y))
       (λ m. query_unfit (map_of r) t none m ∙ rw (list_fit ok, m))
 
-  pub idle_code : Reservoir.fitting (reservoir_of r) l ≡ true → (m : ConsistentNodeMap) (b : Truth)
-      → m ≡ map_of r → Slots.told_truth b ≡ Slots.is_empty_call m t → Slots.told_truth b ≡ idle_of (state r l t)
+  pub idle_code : Reservoir.fitting (reservoir_of r) l ≡ true → (m : ConsistentNodeMap) (b : Result Bool Refusal)
+      → m ≡ map_of r → told b ≡ Slots.is_empty_call m t → told b ≡ idle_of (state r l t)
   idle_code ok m b e f = f ∙ ap (λ (x : ConsistentNodeMap). Slots.is_empty_call x t) e ∙ idle_by ok

@@ -2,18 +2,14 @@
 -- before returned or left them, and nothing else writes these." A call by value returns the record, one on the lent record leaves it
 -- there.
 -- Assumes nothing.
-use Rattle.std.specs.Prelude.{◌≡◌, List, [], ◌∷◌, ℕ}
+use Rattle.std.specs.Prelude.{◌≡◌, List, [], ◌∷◌, ℕ, Option, Result}
 use Rattle.lists.specs.Told.{Told, map_told}
+use Rattle.answers.specs.declared.Refusal.{Refusal}
+use Rattle.answers.specs.Refusals.{told}
 use Rattle.orders.specs.declared.consistent_reservoir.Exchange.{Exchange}
 use Rattle.orders.specs.ReservoirCalls.{told_exchange}
-use Rattle.choosers.specs.declared.node_map.Slot.{Slot}
-use Rattle.choosers.specs.declared.node_map.Outcome.{Outcome}
-use Rattle.choosers.specs.SlotCalls.{told_slot, told_outcome}
 use Rattle.rounds.specs.declared.round.Round.{Round}
-use Rattle.rounds.specs.declared.round.Admission.{Admission}
-use Rattle.rounds.specs.declared.round.Joining.{Joining}
-use Rattle.rounds.specs.declared.round.Withdrawal.{Withdrawal}
-use Rattle.rounds.specs.Rounds.{State, state, after, admission, admit_call, joining, join_call, withdrawal, withdraw_call}
+use Rattle.rounds.specs.Rounds.{State, state, after, admit_call, join_call, withdraw_call}
 use Rattle.rounds.specs.Plans.{after_plan, plan_call, shown_plan}
 use Rattle.rounds.specs.Ledgers.{Call, admit, join, withdraw, first_ledger, ledger_plan, fed_all}
 use Rattle.rounds.specs.Histories.{exchanged, slot_said, nothing_said}
@@ -22,19 +18,19 @@ use Rattle.rounds.specs.Demand3.{Agree, Enough}
 -- On s a call was made: it said w, and t stands after it. Each case has the promise of one of the six calls as it stands in the code.
 pub data Made (s : State) : Call → Told (List ℕ) → State → Type 0 where
   -- by value, the record returned
-  admit_returned : (a : Admission) (l : List ℕ) → admission a l s.table ≡ admit_call s
-      → Made s admit (map_told exchanged (told_exchange a.exchange)) (state a.round l s.table)
-  join_returned : (a : Joining) (t : List ℕ) → joining a s.list t ≡ join_call s
-      → Made s join (map_told slot_said (told_slot a.slot)) (state a.round s.list t)
-  withdraw_returned : (x : ℕ) (a : Withdrawal) (t : List ℕ) → withdrawal a s.list t ≡ withdraw_call s x
-      → Made s (withdraw x) (map_told nothing_said (told_outcome a.outcome)) (state a.round s.list t)
+  admit_returned : (a : Round × Result (Option Exchange) Refusal) (l : List ℕ) → after (told_exchange a.1) (state a.0 l s.table) ≡ admit_call s
+      → Made s admit (map_told exchanged (told_exchange a.1)) (state a.0 l s.table)
+  join_returned : (a : Round × Result ℕ Refusal) (t : List ℕ) → after (told a.1) (state a.0 s.list t) ≡ join_call s
+      → Made s join (map_told slot_said (told a.1)) (state a.0 s.list t)
+  withdraw_returned : (x : ℕ) (a : Round × Result (Unit {0}) Refusal) (t : List ℕ) → after (told a.1) (state a.0 s.list t) ≡ withdraw_call s x
+      → Made s (withdraw x) (map_told nothing_said (told a.1)) (state a.0 s.list t)
   -- on the lent record, which is left
-  admit_left : (e : Exchange) (r : Round) (l : List ℕ) → after (told_exchange e) (state r l s.table) ≡ admit_call s
+  admit_left : (e : Result (Option Exchange) Refusal) (r : Round) (l : List ℕ) → after (told_exchange e) (state r l s.table) ≡ admit_call s
       → Made s admit (map_told exchanged (told_exchange e)) (state r l s.table)
-  join_left : (y : Slot) (r : Round) (t : List ℕ) → after (told_slot y) (state r s.list t) ≡ join_call s
-      → Made s join (map_told slot_said (told_slot y)) (state r s.list t)
-  withdraw_left : (x : ℕ) (o : Outcome) (r : Round) (t : List ℕ) → after (told_outcome o) (state r s.list t) ≡ withdraw_call s x
-      → Made s (withdraw x) (map_told nothing_said (told_outcome o)) (state r s.list t)
+  join_left : (y : Result ℕ Refusal) (r : Round) (t : List ℕ) → after (told y) (state r s.list t) ≡ join_call s
+      → Made s join (map_told slot_said (told y)) (state r s.list t)
+  withdraw_left : (x : ℕ) (o : Result (Unit {0}) Refusal) (r : Round) (t : List ℕ) → after (told o) (state r s.list t) ≡ withdraw_call s x
+      → Made s (withdraw x) (map_told nothing_said (told o)) (state r s.list t)
 
 -- a list of calls, each on what the one before returned or left
 pub data AllMade : State → List Call → List (Told (List ℕ)) → State → Type 0 where
@@ -47,5 +43,5 @@ pub data AllMade : State → List Call → List (Told (List ℕ)) → State → 
 pub record MadeFollows (key k n bytes : ℕ) (calls : List Call) (ws : List (Told (List ℕ))) (t : State) : Type 0 where
   pub said : Agree (first_ledger key k n) calls ws
   pub planned : (ls ts : List ℕ) (places : ℕ) → Enough k bytes ls ts places
-      → (o : Outcome) (ls' ts' : List ℕ) → after_plan (told_outcome o) ls' ts' ≡ plan_call t ls ts places
-      → shown_plan k (after_plan (told_outcome o) ls' ts') ≡ ledger_plan (fed_all (first_ledger key k n) calls ws)
+      → (o : Result (Unit {0}) Refusal) (ls' ts' : List ℕ) → after_plan (told o) ls' ts' ≡ plan_call t ls ts places
+      → shown_plan k (after_plan (told o) ls' ts') ≡ ledger_plan (fed_all (first_ledger key k n) calls ws)

@@ -1,15 +1,24 @@
 -- What the promises of private functions on replays say. No public promise cites this file.
 -- Assumes nothing.
-use Rattle.std.specs.Prelude.{List, [], ◌∷◌, ◌++◌, ℕ, ◌+◌, length, take, drop}
-use Rattle.rounds.specs.declared.replays.Answer.{Answer}
-use Rattle.rounds.specs.declared.replays.Called.{Called}
-use Rattle.rounds.specs.Rounds.{State, state}
+use Rattle.std.specs.Prelude.{◌≡◌, true, false, List, ◌++◌, ℕ, ◌+◌, length, take, drop, Result, MatchResult}
+use Rattle.answers.specs.declared.Refusal.{Refusal}
+use Rattle.answers.specs.declared.Refusal.TheVariants.{Misfit}
+use Rattle.rounds.specs.declared.replays.Call as numbered
+use Rattle.rounds.specs.declared.replays.Call.TheVariants.{Admit, Join, Withdraw}
+use Rattle.rounds.specs.Rounds.{State}
+use Rattle.rounds.specs.Ledgers.{Call, admit, join, withdraw}
 use Rattle.rounds.specs.Histories.{call}
-use Rattle.rounds.specs.Replays.{call_of, coded}
+use Rattle.rounds.specs.Replays.{known, call_of, coded}
 
--- an answer's four numbers
-abbrev pub words_of : Answer → List ℕ
-words_of a = a.refused ∷ a.values ∷ a.first ∷ a.second ∷ []
+-- the ledger's call
+abbrev pub as_call : numbered.Call → Call
+as_call Admit = admit
+as_call Join = join
+as_call (Withdraw x) = withdraw x
+
+-- a number read as a call
+abbrev pub Reads : ℕ → Result numbered.Call Refusal → Type 0
+Reads x r = MatchResult r (λ c. (known x ≡ true) × (as_call c ≡ call_of x)) (λ why. (known x ≡ false) × (why ≡ Misfit))
 
 -- xs over the places from p on
 unfoldable pub placed_at : ℕ → List ℕ → List ℕ → List ℕ
@@ -20,10 +29,10 @@ pub record Stepped : Type 0 where
   pub words : List ℕ
   pub state : State
 
-abbrev pub stepped : Called → List ℕ → List ℕ → Stepped
-stepped s l t = record { words = words_of s.answer; state = state s.round l t }
+abbrev pub stepped : List ℕ → State → Stepped
+stepped words s = record { words = words; state = s }
 
-unfoldable pub step_of : ℕ → State → Stepped
+unfoldable pub step_of : Call → State → Stepped
 step_of x s =
-    let a = call s (call_of x) in
-    record { words = coded a.told; state = a.state }
+    let a = call s x in
+    stepped (coded a.told) a.state

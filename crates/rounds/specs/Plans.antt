@@ -1,19 +1,14 @@
 -- Document 01, **Round**: what plan says and leaves, on any record, list and table; and the plan as it stands in memory.
 -- Assumes nothing.
-use Rattle.std.specs.Prelude.{◌≡◌, cond, ◌||◌, List, [], ◌∷◌, map, ℕ, min, ltb, eqb, length, take}
+use Rattle.std.specs.Prelude.{◌≡◌, cond, ◌||◌, List, [], ◌∷◌, map, ℕ, min, ltb, eqb, length, take, Result, Ok, Err}
 use Rattle.std.proofs.Math.Option.{Option, some, get_or}
 use Rattle.lists.specs.Told.{Told, refusal, says, map_told}
 use Rattle.lists.specs.Lists.{written}
+use Rattle.answers.specs.declared.Refusal.{Refusal}
 use Rattle.orders.specs.ReservoirCalls as Reservoir
-use Rattle.choosers.specs.declared.node_map.Outcome.{Outcome}
-use Rattle.choosers.specs.declared.node_map.Outcome.TheVariants as outcome
 use Rattle.choosers.specs.Slots.{actives, holder, state_of}
 use Rattle.choosers.specs.SlotCalls as Slots
 use Rattle.rounds.specs.Rounds.{reservoir_of, State, fitting}
-
--- 01's number, or that it is done
-abbrev pub told_outcome : Outcome → Told (Unit {0})
-told_outcome o = Slots.told_outcome o
 
 -- what a plan says, and the two lists after it
 pub record AfterPlan : Type 0 where
@@ -46,9 +41,9 @@ plan_call s ls ts places =
     (after_plan (refusal 12) ls ts)
 
 -- "the scratch is free after an accepted .. plan, unchanged after a refused one"; it keeps its length
-abbrev pub ScratchAfter : Outcome → List ℕ → List ℕ → Type 0
-ScratchAfter outcome.Done before now = length now ≡ length before
-ScratchAfter (outcome.Refused w) before now = now ≡ before
+abbrev pub ScratchAfter : Result (Unit {0}) Refusal → List ℕ → List ℕ → Type 0
+ScratchAfter (Ok u) before now = length now ≡ length before
+ScratchAfter (Err why) before now = now ≡ before
 
 -- ---- the plan as it stands in memory
 

@@ -1,12 +1,11 @@
 -- `replay`: an open, a list of calls and a plan in one call, so that demand 3 stands in the promise of code that runs. How calls
 -- and answers are written as numbers; what replay says and leaves; and what its answers are by the ledger alone.
 -- Assumes nothing.
-use Rattle.std.specs.Prelude.{◌≡◌, ◌≢◌, Bool, cond, ◌||◌, List, [], ◌∷◌, ◌++◌, map, ℕ, zero, suc, ◌+◌, ◌*◌, ◌^◌, ◌/◌, ◌%◌, ltb, eqb, length, get_or, take, drop}
+use Rattle.std.specs.Prelude.{◌≡◌, ◌≢◌, Bool, cond, ◌||◌, List, [], ◌∷◌, ◌++◌, map, ℕ, zero, suc, ◌+◌, ◌*◌, ◌^◌, ◌/◌, ◌%◌, ltb, eqb, length, get_or, take, drop, Result, Ok, Err}
 use Rattle.lists.specs.Told.{Told, refusal, says, map_told}
 use Rattle.lists.specs.Lists.{every, written}
 use Rattle.orders.specs.ReservoirCalls.{short_refusal}
-use Rattle.choosers.specs.declared.node_map.Outcome.{Outcome}
-use Rattle.choosers.specs.declared.node_map.Outcome.TheVariants as outcome
+use Rattle.answers.specs.declared.Refusal.{Refusal}
 use Rattle.rounds.specs.declared.round.Round.{Round}
 use Rattle.rounds.specs.Rounds.{State, state, open_call}
 use Rattle.rounds.specs.Plans.{after_plan, plan_call, Sheet, shown_plan}
@@ -86,9 +85,9 @@ replay_call key k n codes l t ws ls ts places =
 abbrev pub ScratchRun : ℕ → List ℕ → List ℕ → List ℕ → Type 0
 ScratchRun c ws before now = (length now ≡ length before) × (get_or ws (4 * c) 0 ≢ 0 → now ≡ before)
 
-abbrev pub ReplayScratch : Outcome → ℕ → List ℕ → List ℕ → List ℕ → Type 0
-ReplayScratch (outcome.Refused w) c ws before now = now ≡ before
-ReplayScratch outcome.Done c ws before now = ScratchRun c ws before now
+abbrev pub ReplayScratch : Result (Unit {0}) Refusal → ℕ → List ℕ → List ℕ → List ℕ → Type 0
+ReplayScratch (Err why) c ws before now = now ≡ before
+ReplayScratch (Ok u) c ws before now = ScratchRun c ws before now
 
 -- ---- demand 3 of what replay leaves, in the ledger's terms alone
 
@@ -104,6 +103,6 @@ pub record ByLedger (key k n : ℕ) (calls : List Call) (bytes places : ℕ) (ws
       → planned_in k (length calls) ws ls ts ≡ ledger_plan (fed_all (first_ledger key k n) calls (read_all (length calls) ws))
 
 -- where it was not refused
-abbrev pub Replayed : Outcome → ℕ → ℕ → ℕ → List ℕ → ℕ → ℕ → List ℕ → List ℕ → List ℕ → Type 0
-Replayed (outcome.Refused w) key k n codes bytes places ws ls ts = Unit {0}
-Replayed outcome.Done key k n codes bytes places ws ls ts = ByLedger key k n (map call_of codes) bytes places ws ls ts
+abbrev pub Replayed : Result (Unit {0}) Refusal → ℕ → ℕ → ℕ → List ℕ → ℕ → ℕ → List ℕ → List ℕ → List ℕ → Type 0
+Replayed (Err why) key k n codes bytes places ws ls ts = Unit {0}
+Replayed (Ok u) key k n codes bytes places ws ls ts = ByLedger key k n (map call_of codes) bytes places ws ls ts

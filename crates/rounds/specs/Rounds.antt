@@ -3,17 +3,12 @@
 -- Assumes nothing.
 use Rattle.std.specs.Prelude.{Bool, cond, ◌&&◌, List, ℕ}
 use Rattle.std.proofs.Math.Option.{Option}
-use Rattle.lists.specs.Told.{Told, refusal, says, map_told}
+use Rattle.lists.specs.Told.{Told, refusal, map_told}
 use Rattle.orders.specs.declared.consistent_reservoir.ConsistentReservoir.{ConsistentReservoir}
 use Rattle.orders.specs.ReservoirCalls as Reservoir
 use Rattle.choosers.specs.declared.node_map.ConsistentNodeMap.{ConsistentNodeMap}
 use Rattle.choosers.specs.SlotCalls as Slots
 use Rattle.rounds.specs.declared.round.Round.{Round}
-use Rattle.rounds.specs.declared.round.Opened.{Opened}
-use Rattle.rounds.specs.declared.round.Opened.TheVariants as opened
-use Rattle.rounds.specs.declared.round.Admission.{Admission}
-use Rattle.rounds.specs.declared.round.Joining.{Joining}
-use Rattle.rounds.specs.declared.round.Withdrawal.{Withdrawal}
 
 -- a round's reservoir and its slot map
 abbrev pub reservoir_of : Round → ConsistentReservoir
@@ -49,10 +44,6 @@ pub record AfterOpen : Type 0 where
 abbrev pub after_open : Told Round → List ℕ → AfterOpen
 after_open w l = record { told = w; list = l }
 
-abbrev pub told_opened : Opened → Told Round
-told_opened (opened.Made r) = says r
-told_opened (opened.Refused w) = refusal w
-
 -- the reservoir's open; "An accepted open sets the slot count to 0 and writes no table byte."
 unfoldable pub open_call : ℕ → ℕ → ℕ → List ℕ → AfterOpen
 open_call key k n l =
@@ -81,21 +72,12 @@ by_reservoir s a = after a.told (state (round_of a.reservoir (map_of s.round)) a
 abbrev pub by_slots : {A : Type 0} → State → Slots.After A → After A
 by_slots s a = after a.told (state (round_of (reservoir_of s.round) a.map) s.list a.table)
 
-abbrev pub admission : Admission → List ℕ → List ℕ → After (Option (ℕ × ℕ))
-admission a l t = after (Reservoir.told_exchange a.exchange) (state a.round l t)
-
 unfoldable pub admit_call : State → After (Option (ℕ × ℕ))
 admit_call s = cond (fitting s) (by_reservoir s (Reservoir.admit_call (reservoir_of s.round) s.list)) (refused 12 s)
-
-abbrev pub joining : Joining → List ℕ → List ℕ → After ℕ
-joining a l t = after (Slots.told_slot a.slot) (state a.round l t)
 
 -- "join (add)"
 unfoldable pub join_call : State → After ℕ
 join_call s = cond (fitting s) (by_slots s (Slots.add_call (map_of s.round) s.table)) (refused 12 s)
-
-abbrev pub withdrawal : Withdrawal → List ℕ → List ℕ → After (Unit {0})
-withdrawal a l t = after (Slots.told_outcome a.outcome) (state a.round l t)
 
 -- "withdraw (remove)"
 unfoldable pub withdraw_call : State → ℕ → After (Unit {0})

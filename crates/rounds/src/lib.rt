@@ -1,7 +1,6 @@
 // The round of document 01: a reservoir and a slot map under one key. The list and the table are lent to each call.
 #![tactic(auto)]
 
-mod lending;
 mod lent;
 pub mod replays;
 pub mod round;

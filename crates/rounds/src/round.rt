@@ -1,19 +1,19 @@
 // The round's calls by value: each takes the record, and answers what it says with the record after it.
 ghost use Rattle.std.specs.Prelude.{◌≡◌, map, ◌≤◌, length};
 ghost use Rattle.lists.specs.Lists.{written};
-ghost use Rattle.orders.specs.ReservoirCalls.{sample};
-ghost use Rattle.choosers.specs.SlotCalls.{told_truth};
-ghost use Rattle.rounds.specs.Rounds.{fitting, after_open, told_opened, open_call, state, admission, admit_call, joining, join_call, withdrawal, withdraw_call, reservoir_of, map_of};
-ghost use Rattle.rounds.specs.Plans.{after_plan, told_outcome, plan_call, ScratchAfter};
+ghost use Rattle.answers.specs.Refusals.{told};
+ghost use Rattle.orders.specs.ReservoirCalls.{told_exchange, sample};
+ghost use Rattle.rounds.specs.Rounds.{fitting, after_open, open_call, state, after, admit_call, join_call, withdraw_call, reservoir_of, map_of};
+ghost use Rattle.rounds.specs.Plans.{after_plan, plan_call, ScratchAfter};
 ghost use Rattle.rounds.specs.InnerRounds.{begun, with_reservoir, with_map, idle_of, dealt_to};
 
+use answers::Refusal;
 use choosers::node_map;
-use choosers::node_map::{ConsistentNodeMap, Looked, Outcome, Slot, Truth};
-use orders::consistent_reservoir;
+use choosers::node_map::ConsistentNodeMap;
 use orders::consistent_reservoir::{ConsistentReservoir, Exchange};
 
 // A round's numbers: those of its reservoir, and how many slots there are, deleted ones too.
-#[derive(Clone, Copy)]
+#[derive(Clone, Copy, Debug, PartialEq, Eq)]
 pub struct Round {
     pub master_key: u64,
     pub k: u32,
@@ -21,34 +21,6 @@ pub struct Round {
     pub j_max: u32,
     pub used: u32,
     pub total: u32,
-}
-
-// A round, or a refusal with its number.
-#[derive(Clone, Copy)]
-pub enum Opened {
-    Made(Round),
-    Refused(u32),
-}
-
-// The round after an admit, and what that said.
-#[derive(Clone, Copy)]
-pub struct Admission {
-    pub round: Round,
-    pub exchange: Exchange,
-}
-
-// The round after a join, and the terminal's slot.
-#[derive(Clone, Copy)]
-pub struct Joining {
-    pub round: Round,
-    pub slot: Slot,
-}
-
-// The round after a withdraw, and whether that was refused.
-#[derive(Clone, Copy)]
-pub struct Withdrawal {
-    pub round: Round,
-    pub outcome: Outcome,
 }
 
 // ---- the parts of a round
@@ -101,12 +73,8 @@ fn with_map(r: Round, m: ConsistentNodeMap) -> Round
     ensures { result ≡ with_map r m }
 {
     Round {
-        master_key: r.master_key,
-        k: r.k,
-        n: r.n,
-        j_max: r.j_max,
-        used: r.used,
         total: m.total,
+        ..r
     }
 }
 
@@ -114,101 +82,74 @@ fn with_map(r: Round, m: ConsistentNodeMap) -> Round
 pub fn fits(r: Round, list: &[u32], table: &[u8]) -> bool
     ensures { result ≡ fitting (state r list.now table.now) }
 {
-    let a = reservoir_of(r);
-    if !a.fits(list) {
-        return false;
-    }
-    let m = map_of(r);
-    m.fits(table)
+    reservoir_of(r).fits(list) && map_of(r).fits(table)
 }
 
 // ---- open, admit, join, withdraw
 
 // Open with k of n: refusals 1, 2, 3, 4.
-pub fn open(key: u64, k: u32, n: u32, list: &mut [u32]) -> Opened
-    ensures { after_open (told_opened result) list.new ≡ open_call key k n list.old }
+pub fn open(key: u64, k: u32, n: u32, list: &mut [u32]) -> Result<Round, Refusal>
+    ensures { after_open (told result) list.new ≡ open_call key k n list.old }
 {
-    match ConsistentReservoir::new(k, n, key, list) {
-        consistent_reservoir::Opened::Made(a) => Opened::Made(begin(a)),
-        consistent_reservoir::Opened::Refused(w) => Opened::Refused(w),
-    }
+    let a = ConsistentReservoir::new(k, n, key, list)?;
+    Ok(begin(a))
 }
 
 // Admit: refusals 12, 4.
-pub fn admitted(r: Round, list: &mut [u32], table: &[u8]) -> Admission
-    ensures { admission result list.new table.now ≡ admit_call (state r list.old table.now) }
+pub fn admitted(
+    r: Round,
+    list: &mut [u32],
+    table: &[u8],
+) -> (Round, Result<Option<Exchange>, Refusal>)
+    ensures { after (told_exchange result.1) (state result.0 list.new table.now) ≡ admit_call (state r list.old table.now) }
 {
-    let m = map_of(r);
-    if !m.fits(table) {
-        return Admission {
-            round: r,
-            exchange: Exchange::Refused(12),
-        };
+    if !map_of(r).fits(table) {
+        return (r, Err(Refusal::Misfit));
     }
-    let a = reservoir_of(r);
-    let b = a.next(list);
-    let after = b.reservoir;
-    let exchange = b.exchange;
-    Admission {
-        round: with_reservoir(r, after),
-        exchange,
-    }
+    let mut a = reservoir_of(r);
+    let said = a.next(list);
+    (with_reservoir(r, a), said)
 }
 
 // Join: refusals 12, 9.
-pub fn joined(r: Round, list: &[u32], table: &mut [u8]) -> Joining
-    ensures { joining result list.now table.new ≡ join_call (state r list.now table.old) }
+pub fn joined(r: Round, list: &[u32], table: &mut [u8]) -> (Round, Result<u32, Refusal>)
+    ensures { after (told result.1) (state result.0 list.now table.new) ≡ join_call (state r list.now table.old) }
 {
-    let a = reservoir_of(r);
-    if !a.fits(list) {
-        return Joining {
-            round: r,
-            slot: Slot::Refused(12),
-        };
+    if !reservoir_of(r).fits(list) {
+        return (r, Err(Refusal::Misfit));
     }
-    let m = map_of(r);
-    let b = m.add(table);
-    let after = b.map;
-    let slot = b.slot;
-    Joining {
-        round: with_map(r, after),
-        slot,
-    }
+    let mut m = map_of(r);
+    let said = m.add(table);
+    (with_map(r, m), said)
 }
 
 // Withdraw: refusals 12, 10.
-pub fn withdrawn(r: Round, list: &[u32], table: &mut [u8], slot: u32) -> Withdrawal
-    ensures { withdrawal result list.now table.new ≡ withdraw_call (state r list.now table.old) slot }
+pub fn withdrawn(
+    r: Round,
+    list: &[u32],
+    table: &mut [u8],
+    slot: u32,
+) -> (Round, Result<(), Refusal>)
+    ensures { after (told result.1) (state result.0 list.now table.new) ≡ withdraw_call (state r list.now table.old) slot }
 {
-    let a = reservoir_of(r);
-    if !a.fits(list) {
-        return Withdrawal {
-            round: r,
-            outcome: Outcome::Refused(12),
-        };
+    if !reservoir_of(r).fits(list) {
+        return (r, Err(Refusal::Misfit));
     }
-    let m = map_of(r);
-    let b = m.remove(table, slot);
-    let after = b.map;
-    let outcome = b.outcome;
-    Withdrawal {
-        round: with_map(r, after),
-        outcome,
-    }
+    let mut m = map_of(r);
+    let said = m.remove(table, slot);
+    (with_map(r, m), said)
 }
 
 // ---- plan
 
 // Whether no slot is active: refusal 12.
-fn is_idle(r: Round, list: &[u32], table: &[u8]) -> Truth
-    ensures { told_truth result ≡ idle_of (state r list.now table.now) }
+fn is_idle(r: Round, list: &[u32], table: &[u8]) -> Result<bool, Refusal>
+    ensures { told result ≡ idle_of (state r list.now table.now) }
 {
-    let a = reservoir_of(r);
-    if !a.fits(list) {
-        return Truth::Refused(12);
+    if !reservoir_of(r).fits(list) {
+        return Err(Refusal::Misfit);
     }
-    let m = map_of(r);
-    m.is_empty(table)
+    map_of(r).is_empty(table)
 }
 
 // The slot of a location, 0 where the lookup finds none.
@@ -216,10 +157,7 @@ fn terminal(key: u64, total: u32, table: &[u8], location: u32, scratch: &mut [u6
     ensures { result ≡ dealt_to key total table.now (length scratch.old) location }
 {
     let state = node_map::location_state(key, location);
-    match node_map::first_active(total, table, state, scratch) {
-        Looked::Found(x) => x,
-        Looked::Missing => 0,
-    }
+    node_map::first_active(total, table, state, scratch).unwrap_or(0)
 }
 
 // The sampled locations with their slots, over the first k places of the two lists.
@@ -235,23 +173,17 @@ fn deal(
     ensures locations_after { locations.new ≡ written (sample (reservoir_of r) list.now) locations.old }
     ensures terminals_after { terminals.new ≡ written (map (dealt_to r.master_key r.total table.now (length scratch.old)) (sample (reservoir_of r) list.now)) terminals.old }
 {
-    let used = r.used as usize;
     let n = r.n;
     let key = r.master_key;
     let total = r.total;
-    let mut i: usize = 0;
     let mut p: usize = 0;
-    while i < used {
-        let x = list[i];
-        if x < n {
-            locations[p] = x;
-            let s = terminal(key, total, table, x, scratch);
-            terminals[p] = s;
-            p += 1;
-            i += 1;
-        } else {
-            i += 1;
+    for x in &list[..r.used as usize] {
+        if n <= *x {
+            continue;
         }
+        locations[p] = *x;
+        terminals[p] = terminal(key, total, table, *x, scratch);
+        p += 1;
     }
 }
 
@@ -263,28 +195,24 @@ pub fn plan(
     locations: &mut [u32],
     terminals: &mut [u32],
     scratch: &mut [u64],
-) -> Outcome
-    ensures answer { after_plan (told_outcome result) locations.new terminals.new ≡ plan_call (state r list.now table.now) locations.old terminals.old (length scratch.old) }
+) -> Result<(), Refusal>
+    ensures answer { after_plan (told result) locations.new terminals.new ≡ plan_call (state r list.now table.now) locations.old terminals.old (length scratch.old) }
     ensures scratch_after { ScratchAfter result scratch.old scratch.new }
 {
-    match is_idle(r, list, table) {
-        Truth::Refused(w) => Outcome::Refused(w),
-        Truth::Is(idle) => {
-            let k = r.k as usize;
-            if locations.len() < k {
-                return Outcome::Refused(4);
-            }
-            if terminals.len() < k {
-                return Outcome::Refused(4);
-            }
-            if scratch.len() < node_map::scratch_places(table) {
-                return Outcome::Refused(4);
-            }
-            if idle {
-                return Outcome::Refused(11);
-            }
-            deal(r, list, table, locations, terminals, scratch);
-            Outcome::Done
-        }
+    let idle = is_idle(r, list, table)?;
+    let k = r.k as usize;
+    if locations.len() < k {
+        return Err(Refusal::ShortMemory);
     }
+    if terminals.len() < k {
+        return Err(Refusal::ShortMemory);
+    }
+    if scratch.len() < node_map::scratch_places(table) {
+        return Err(Refusal::ShortMemory);
+    }
+    if idle {
+        return Err(Refusal::NoneActive);
+    }
+    deal(r, list, table, locations, terminals, scratch);
+    Ok(())
 }

@@ -1,17 +1,14 @@
 // What a replay found so far.
+use std::fmt;
 
 // The number of the line that is being read, how many answers were compared, how many differ, and the line of the first
 // that does.
 #[derive(Drop)]
 pub struct Tally {
-    pub line: u64,
-    pub compared: u64,
-    pub differ: u64,
-    pub first: u64,
-}
-
-fn plus_one(n: u64) -> u64 {
-    std::num::wrapping_add_u64(n, 1)
+    line: u64,
+    compared: u64,
+    differ: u64,
+    first: Option<u64>,
 }
 
 impl Tally {
@@ -20,36 +17,36 @@ impl Tally {
             line: 1,
             compared: 0,
             differ: 0,
-            first: 0,
+            first: None,
         }
     }
 
-    // After a line with no answer.
-    pub(crate) fn passed(self) -> Tally {
-        Tally {
-            line: plus_one(self.line),
-            compared: self.compared,
-            differ: self.differ,
-            first: self.first,
-        }
+    // A line with no answer.
+    pub(crate) fn pass(&mut self) {
+        self.line = self.line.saturating_add(1);
     }
 
-    // After a line with which the library agrees, or not.
-    pub(crate) fn judged(self, agrees: bool) -> Tally {
-        let line = self.line;
-        let mut differ = self.differ;
-        let mut first = self.first;
+    // A line with which the library agrees, or not.
+    pub(crate) fn judge(&mut self, agrees: bool) {
+        self.compared = self.compared.saturating_add(1);
         if !agrees {
-            if differ == 0 {
-                first = line;
-            }
-            differ = plus_one(differ);
+            self.differ = self.differ.saturating_add(1);
+            self.first = self.first.or(Some(self.line));
         }
-        Tally {
-            line: plus_one(line),
-            compared: plus_one(self.compared),
-            differ,
-            first,
+        self.pass();
+    }
+}
+
+impl fmt::Display for Tally {
+    fn fmt<W: fmt::Write>(&self, f: &mut fmt::Formatter<W>) -> fmt::Result {
+        let compared = self.compared;
+        let differ = self.differ;
+        match self.first {
+            None => write!(f, "{compared} answers compared, all agree"),
+            Some(first) => write!(
+                f,
+                "{compared} answers compared, {differ} differ, the first in line {first}"
+            ),
         }
     }
 }

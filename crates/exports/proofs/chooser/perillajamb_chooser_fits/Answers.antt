@@ -12,4 +12,4 @@ returns-then-words-lt3 c = rw (c.refused.ensures, lt-ltb _ 3 c.if-words-lt3.true
 
 pub returns : goal.returns
 returns c =
-    fits_crosses c.args.words.now _ (search rules) _ c.fits.result _ c.loaded-c.ensures c.fits.ensures c.yes.ensures
+    fits_crosses c.args.words.now _ (search rules) _ c.fits.result _ c.loaded.ensures c.fits.ensures c.yes.ensures

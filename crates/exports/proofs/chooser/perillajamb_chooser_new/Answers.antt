@@ -8,8 +8,8 @@ use Rattle.exports.proofs.chooser.perillajamb_chooser_new.Goals as goal
 
 pub returns-then-words-lt3 : goal.returns-then-words-lt3
 unfolding new_crossed
-returns-then-words-lt3 c = rw (c.refused.ensures, c.short_of-short.ensures, lt-ltb _ 3 c.if-words-lt3.true)
+returns-then-words-lt3 c = rw (c.refused.ensures, c.short_of.ensures, lt-ltb _ 3 c.if-words-lt3.true)
 
 pub returns : goal.returns
 returns c =
-    new_crosses _ (search rules) _ _ _ _ c.new-made.result c.new-made.ensures c.store_made.ensures
+    new_crosses _ (search rules) _ _ _ _ c.new.result c.new.ensures c.store_made.ensures

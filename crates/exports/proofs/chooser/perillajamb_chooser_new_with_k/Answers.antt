@@ -8,8 +8,8 @@ use Rattle.exports.proofs.chooser.perillajamb_chooser_new_with_k.Goals as goal
 
 pub returns-then-words-lt3 : goal.returns-then-words-lt3
 unfolding new_with_k_crossed
-returns-then-words-lt3 c = rw (c.refused.ensures, c.short_of-short.ensures, lt-ltb _ 3 c.if-words-lt3.true)
+returns-then-words-lt3 c = rw (c.refused.ensures, c.short_of.ensures, lt-ltb _ 3 c.if-words-lt3.true)
 
 pub returns : goal.returns
 returns c =
-    new_with_k_crosses _ (search rules) _ _ _ _ _ _ _ c.new_with_k-made.result c.new_with_k-made.ensures c.store_made.ensures
+    new_with_k_crosses _ (search rules) _ _ _ _ _ _ _ c.new_with_k.result c.new_with_k.ensures c.store_made.ensures

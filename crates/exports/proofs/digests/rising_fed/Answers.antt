@@ -1,34 +1,24 @@
 -- `exports::digests::rising_fed` meets its contract.
 -- Assumes nothing.
-use mathlib.Core.Bool.{true, false}
-use mathlib.Core.Path.{◌≡◌, refl, ◌∙◌}
-use borrow.Author.Rules.{rules}
-use Rattle.hashes.specs.Walks.{rising_step}
+use Rattle.std.proofs.Common.{sym, ap, ◌∙◌}
+use Rattle.exports.specs.Coded.{fed_all}
 use Rattle.hashes.proofs.WalkLaws.{rise_turn}
-use Rattle.exports.proofs.DigestLaws.{fed}
+use Rattle.exports.proofs.DigestLaws.{fed, fed_all_of}
 use Rattle.exports.proofs.digests.rising_fed.Goals as goal
 
-pub loop-more-init : goal.loop-more-init
-loop-more-init c = (search rules, refl)
+pub loop-x-smaller : goal.loop-x-smaller
+loop-x-smaller c =
+    let l = c.loop-x in
+    (fed rise_turn l.d c.in-Some.x c.next.new.self l.walk l.invariant.0 (rw c.in-Some.is at c.next.ensures)).less
 
-pub loop-more-smaller : goal.loop-more-smaller
-loop-more-smaller c =
-    let l = c.loop-more in
-    let step = c.next-step in
-    let e : l.more ≡ true = c.loop-more-test.true in
-    let turn = fed rise_turn l.d _ _ l.walk (rising_step step.result) l.invariant.0 step.ensures c.fed_with-d.ensures c.is_hash-more.ensures in
-    rw e turn.less
-
-pub loop-more-preserved : goal.loop-more-preserved
-loop-more-preserved c =
-    let l = c.loop-more in
-    let step = c.next-step in
-    let e : l.more ≡ true = c.loop-more-test.true in
-    let turn = fed rise_turn l.d _ _ l.walk (rising_step step.result) l.invariant.0 step.ensures c.fed_with-d.ensures c.is_hash-more.ensures in
-    (turn.goes_on, turn.same ∙ (rw e at l.invariant.1))
+pub loop-x-preserved : goal.loop-x-preserved
+loop-x-preserved c =
+    let l = c.loop-x in
+    let t = fed rise_turn l.d c.in-Some.x c.next.new.self l.walk l.invariant.0 (rw c.in-Some.is at c.next.ensures) in
+    (t.goes_on, rw c.seq_builder-d.ensures (t.same ∙ l.invariant.1))
 
 pub returns : goal.returns
 returns c =
-    let l = c.loop-more in
-    let e : l.more ≡ false = c.loop-more-test.false in
-    rw e at l.invariant.1
+    let l = c.loop-x in
+    let done = fed_all_of rise_turn c.next.new.self l.walk l.invariant.0 (rw c.in_default.is at c.next.ensures) in
+    sym (ap (fed_all l.d) done) ∙ l.invariant.1

@@ -10,5 +10,5 @@ returns-then-ws-lt18 c = next_short _ _ c.refused.ensures c.if-ws-lt18.true
 
 pub returns : goal.returns
 returns c =
-    let run = c.run-r in
+    let run = c.run in
     next_run run.result _ _ run.ensures (search rules)

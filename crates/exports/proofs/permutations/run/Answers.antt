@@ -1,34 +1,29 @@
 -- `exports::permutations::run` meets its contract.
 -- Assumes nothing.
-use mathlib.Core.Path.{◌≡◌, ap, ◌∙◌}
-use native.Mathlib.Omega.{arith}
-use mathlib.Core.Option as Opt
+use Rattle.std.proofs.Common.{◌≡◌, ◌+◌, ◌-◌, ap, ◌∙◌, arith}
+use Rattle.std.proofs.Math.Option.{none}
 use Rattle.lists.specs.Told.{says}
-use Rattle.orders.specs.OrderCalls.{told_given}
+use Rattle.answers.specs.Refusals.{told_option}
 use Rattle.exports.specs.InnerRuns.{run_of, run_on}
-use Rattle.exports.proofs.RunLaws.{one_more, ran_refused, ran_none, ran_number}
+use Rattle.exports.proofs.RunLaws.{one_more, ran}
 use Rattle.exports.proofs.permutations.run.Goals as goal
 
-pub loop-left-init : goal.loop-left-init
-loop-left-init c = ap (λ o. run_on c.args.count (run_of (says Opt.none) o 0)) c.loaded-order.ensures
+pub loop-init : goal.loop-init
+loop-init c =
+    let n = c.args.count in
+    let e : n - 0 ≡ n = omega arith in
+    rw e (ap (λ o. run_on n (run_of (says none) o 0)) c.loaded-order.ensures)
 
-pub loop-left-preserved : goal.loop-left-preserved
-loop-left-preserved c =
-    let step = c.next-step in
-    one_more c.loop-left.left c.loop-left.fed c.fed_with-fed.result c.loop-left.order (told_given c.loop-left.given) step.result step.ensures c.fed_with-fed.ensures c.loop-left-test.true
-    ∙ c.loop-left.invariant
+pub loop-preserved : goal.loop-preserved
+loop-preserved c =
+    let l = c.loop in
+    let n = c.args.count in
+    let e : n - (l.counter + 1) ≡ n - l.counter - 1 = omega arith in
+    rw e (one_more (n - l.counter) l.fed c.fed_with-fed.result l.order c.next-said.new.self (told_option l.said) (told_option c.next-said.result) c.next-said.ensures c.fed_with-fed.ensures (omega arith) ∙ l.invariant)
 
-pub returns-in-Refused : goal.returns-in-Refused
-returns-in-Refused c =
-    let z : c.loop-left.left ≡ 0 = omega arith in
-    ran_refused _ _ c.loop-left.given c.loop-left.order c.loop-left.fed (rw z at c.loop-left.invariant) _ _ c.in-Refused.is c.refused.ensures
-
-pub returns-in-Nothing : goal.returns-in-Nothing
-returns-in-Nothing c =
-    let z : c.loop-left.left ≡ 0 = omega arith in
-    ran_none _ _ c.loop-left.given c.loop-left.order c.loop-left.fed (rw z at c.loop-left.invariant) c.in-Nothing.is _ c.store.ensures
-
-pub returns-in-Number : goal.returns-in-Number
-returns-in-Number c =
-    let z : c.loop-left.left ≡ 0 = omega arith in
-    ran_number _ _ c.loop-left.given c.loop-left.order c.loop-left.fed (rw z at c.loop-left.invariant) _ c.in-Number.is _ c.store-in-Number.ensures
+pub returns : goal.returns
+returns c =
+    let l = c.loop in
+    let z : c.args.count - l.counter ≡ 0 = omega arith in
+    let words = rw c.is_ok.ensures.value at c.keep.ensures in
+    ran _ _ _ l.said l.order l.fed _ (rw z at l.invariant) words c.number_or_none.ensures

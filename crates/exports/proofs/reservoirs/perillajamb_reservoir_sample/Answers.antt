@@ -9,4 +9,4 @@ returns-then-words-lt6 c = sample_few _ _ _ _ c.refused.ensures c.if-words-lt6.t
 
 pub returns : goal.returns
 returns c =
-    sample_coded _ _ _ _ c.reservoir-o.result _ _ c.loaded-r.ensures c.reservoir-o.ensures c.coded_outcome.ensures (search rules)
+    sample_coded _ _ _ _ c.reservoir.result _ _ c.loaded.ensures c.reservoir.ensures c.done.ensures (search rules)

@@ -12,4 +12,4 @@ returns-then-words-lt7 c = rw (c.refused.ensures, lt-ltb _ 7 c.if-words-lt7.true
 
 pub returns : goal.returns
 returns c =
-    fits_crosses _ (search rules) _ _ _ _ c.fits.result c.loaded-r.ensures c.fits.ensures c.yes.ensures
+    fits_crosses _ (search rules) _ _ _ _ c.fits.result c.loaded.ensures c.fits.ensures c.yes.ensures

@@ -18,6 +18,6 @@ pub returns : goal.returns
 returns c =
     let l = c.loaded-r in
     record {
-      answer = plan_crosses _ (search rules) _ _ _ _ _ _ _ _ _ c.plan-o.result l.ensures c.plan-o.ensures.answer c.coded_outcome.ensures;
-      scratch_after = outcome_spares c.plan-o.result _ _ _ c.coded_outcome.ensures c.plan-o.ensures.scratch_after;
+      answer = plan_crosses _ (search rules) _ _ _ _ _ _ _ _ _ c.plan.result l.ensures c.plan.ensures.answer c.done.ensures;
+      scratch_after = outcome_spares c.plan.result _ _ _ c.done.ensures c.plan.ensures.scratch_after;
     }

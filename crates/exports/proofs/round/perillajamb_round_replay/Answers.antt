@@ -5,8 +5,8 @@ use Rattle.exports.proofs.round.perillajamb_round_replay.Goals as goal
 
 pub returns : goal.returns
 returns c =
-    let g = c.replay-o in
-    let coded = c.coded_outcome.ensures in
+    let g = c.replay in
+    let coded = c.done.ensures in
     record {
       answer = replay_crosses _ _ _ _ _ _ _ _ _ _ _ _ _ _ _ _ g.result coded g.ensures.answer;
       replayed_as = outcome_replayed g.result _ _ _ _ _ _ _ _ _ _ coded g.ensures.replayed;

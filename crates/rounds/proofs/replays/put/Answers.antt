@@ -1,18 +1,14 @@
 -- `rounds::replays::put` meets its contract.
 -- Assumes nothing.
-use borrow.Author.Rules.{rules}
-use lib.ListN.{length-set}
-use Rattle.rounds.proofs.ReplayTurns.{placed_stores}
+use Rattle.std.proofs.Common.{◌≡◌, ◌+◌, ◌-◌, ◌≤◌, ◌∙◌, length, drop, length-drop, length-take-le, arith, append_assoc}
+use Rattle.std.proofs.Math.Seq.{drop-drop}
+use Rattle.rounds.specs.InnerReplays.{placed_at}
 use Rattle.rounds.proofs.replays.put.Goals as goal
 
-pub bounds-answers-p-2 : goal.bounds-answers-p-2
-bounds-answers-p-2 c = simp length-set (search rules)
-
-pub bounds-answers-p-3 : goal.bounds-answers-p-3
-bounds-answers-p-3 c = simp length-set (search rules)
-
-pub bounds-answers-p-4 : goal.bounds-answers-p-4
-bounds-answers-p-4 c = simp length-set (search rules)
-
 pub returns : goal.returns
-returns c = placed_stores _ _ _ _ _ _ c.requires
+unfolding placed_at
+returns c =
+    let e : c.args.p + 4 - c.args.p ≡ 4 = omega arith in
+    let q : 4 ≤ length (drop c.args.p c.args.answers.now) = rw (length-drop c.args.p c.args.answers.now) (omega (arith, c.requires)) in
+    let n : length c.args.words ≡ 4 = rw (c.copy_from_slice.ensures.after, e) at c.copy_from_slice.ensures.len ∙ length-take-le 4 (drop c.args.p c.args.answers.now) q in
+    rw (e, c.copy_from_slice.ensures.after, drop-drop 4 c.args.p c.args.answers.now, append_assoc, n)

@@ -11,13 +11,13 @@ overflow_mul-calls c = omega arith
 
 pub put-requires : goal.put-requires
 put-requires c =
-    omega (arith, c.requires, c.run_calls-s.auto.answers)
+    omega (arith, c.requires.room, c.run_calls.auto.answers)
 
 pub returns : goal.returns
 returns c =
     let a = c.args in record {
-      answer = run_is (state a.r a.list.now a.table.now) a.calls.now c.run_calls-s.result _ _ _ _ _ _ _ c.plan-o.result c.of_outcome.result _ _ _
-          c.run_calls-s.ensures.state_after c.run_calls-s.ensures.answers_after c.plan-o.ensures.answer c.of_outcome.ensures c.put.ensures;
-      scratch_run = run_scratch (length a.calls.now) c.plan-o.result c.of_outcome.result _ _ _ _
-          (omega (arith, c.requires, c.run_calls-s.auto.answers)) c.of_outcome.ensures c.put.ensures c.plan-o.ensures.scratch_after;
+      answer = run_is (state a.r a.list.now a.table.now) a.calls.now _ _ _ _ _ _ _ _ c.plan-planned.result c.of_nothing.result _ _ _
+          c.run_calls.ensures.state_after c.run_calls.ensures.answers_after c.plan-planned.ensures.answer c.of_nothing.ensures c.put.ensures;
+      scratch_run = run_scratch (length a.calls.now) c.plan-planned.result c.of_nothing.result _ _ _ _
+          (omega (arith, c.requires.room, c.run_calls.auto.answers)) c.of_nothing.ensures c.put.ensures c.plan-planned.ensures.scratch_after;
     }

@@ -1,39 +1,25 @@
 -- `rounds::replays::run_calls` meets its contract.
 -- Assumes nothing.
-use mathlib.Core.Path.{refl, ◌∙◌}
-use borrow.Author.Rules.{rules}
-use Rattle.rounds.proofs.ReplayTurns.{after_turn, placed_turn, after_end, placed_end, placed_written}
+use Rattle.std.proofs.Common.{refl, ◌∙◌}
+use Rattle.rounds.proofs.ReplayTurns.{after_turn, placed_turn, after_end, placed_end, placed_written, read_call, reads_ok, known_at}
 use Rattle.rounds.proofs.replays.run_calls.Goals as goal
 
 pub loop-i-init : goal.loop-i-init
-loop-i-init c = (search rules, refl, refl, refl, refl, refl)
+loop-i-init c = (refl, refl)
+
+pub unwrap-call-requires : goal.unwrap-call-requires
+unwrap-call-requires c = reads_ok _ _ c.try_from.ensures (known_at c.args.calls.now c.loop-i.i c.requires.known c.loop-i-test.true)
 
 pub loop-i-preserved : goal.loop-i-preserved
 loop-i-preserved c =
     let l = c.loop-i in
-    let t = c.step-t.result in (
-      search rules,
-      c.step-t.auto.list ∙ l.invariant.1,
-      c.step-t.auto.table ∙ l.invariant.2,
-      c.put.auto.answers ∙ l.invariant.3,
-      after_turn _ l.i c.loop-i-test.true _ t _ _ c.step-t.ensures l.invariant.4,
-      placed_turn _ l.i c.loop-i-test.true _ t _ _ c.step-t.ensures l.answers _ c.put.ensures l.invariant.5,
+    let is = read_call _ c.unwrap-call.result _ c.try_from.ensures c.unwrap-call.ensures in (
+      after_turn _ l.i c.loop-i-test.true _ _ _ _ is c.step-words.ensures l.invariant.0,
+      placed_turn _ l.i c.loop-i-test.true _ _ _ _ is c.step-words.ensures l.answers _ c.put.ensures l.invariant.1,
     )
 
-pub shape_of-list : goal.shape_of-list
-shape_of-list c = c.loop-i.invariant.1
+pub returns-clause-state_after : goal.returns-clause-state_after
+returns-clause-state_after c = after_end _ c.loop-i.i c.loop-i-test.false _ c.loop-i.invariant.0
 
-pub shape_of-table : goal.shape_of-table
-shape_of-table c = c.loop-i.invariant.2
-
-pub shape_of-answers : goal.shape_of-answers
-shape_of-answers c = c.loop-i.invariant.3
-
-pub returns : goal.returns
-returns c =
-    let l = c.loop-i in
-    let done = c.loop-i-test.false in
-    record {
-      state_after = after_end _ l.i done _ l.invariant.4;
-      answers_after = placed_end _ l.i done _ _ l.invariant.5 ∙ placed_written _ _ _;
-    }
+pub returns-clause-answers_after : goal.returns-clause-answers_after
+returns-clause-answers_after c = placed_end _ c.loop-i.i c.loop-i-test.false _ _ c.loop-i.invariant.1 ∙ placed_written _ _ _

@@ -2,8 +2,7 @@
 -- Assumes nothing.
 use mathlib.Core.Path.{◌≡◌}
 use mathlib.Core.List.{map}
-use Prim.Native.Nat.{◌-◌, ◌*◌, ◌≤◌}
-use lib.ListN.{length}
+use Prim.Native.Nat.{◌*◌}
 use Rattle.rounds.specs.Rounds.{state}
 use Rattle.rounds.specs.Histories.{after_all}
 use Rattle.rounds.specs.Replays.{call_of}
@@ -12,12 +11,5 @@ use Rattle.rounds.proofs.replays.run_calls.Given as goal
 
 abbrev pub invariant-loop-i : goal.invariant-loop-i
 invariant-loop-i l =
-    (l.i ≤ length l.calls)
-    × (length l.list ≡ length l.initial.list)
-    × (length l.table ≡ length l.initial.table)
-    × (length l.answers ≡ length l.initial.answers)
-    × (after_all (state l.s l.list l.table) (calls_from l.i l.calls) ≡ after_all (state l.initial.s l.initial.list l.initial.table) (map call_of l.calls))
-    × (placed_all (4 * l.i) (state l.s l.list l.table) (calls_from l.i l.calls) l.answers ≡ placed_all 0 (state l.initial.s l.initial.list l.initial.table) (map call_of l.calls) l.initial.answers)
-
-abbrev pub decreases-loop-i : goal.decreases-loop-i
-decreases-loop-i l = length l.calls - l.i
+    (after_all (state l.round l.list l.table) (calls_from l.i l.calls) ≡ after_all (state l.initial.round l.initial.list l.initial.table) (map call_of l.calls))
+    × (placed_all (4 * l.i) (state l.round l.list l.table) (calls_from l.i l.calls) l.answers ≡ placed_all 0 (state l.initial.round l.initial.list l.initial.table) (map call_of l.calls) l.initial.answers)

@@ -1,0 +1,2 @@
+-- `exports::coded_output` meets its contract.
+-- Assumes nothing.

@@ -1,6 +1,0 @@
--- `vectors::histories::walked` meets its contract.
--- Assumes nothing.
-use Rattle.vectors.proofs.histories.walked.Given as goal
-
-abbrev pub decreases-loop-left : goal.decreases-loop-left
-decreases-loop-left l = l.left
