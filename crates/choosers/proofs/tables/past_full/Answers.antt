@@ -1,16 +1,8 @@
 -- `choosers::tables::past_full` meets its contract.
 -- Assumes nothing.
-use mathlib.Core.Path.{sym, ap, ◌∙◌}
-use native.Mathlib.Omega.{arith}
-use Rattle.std.specs.Slice.Iter.{chunks_exact_rest, chunks_exact_size}
+use mathlib.Core.Path.{sym, ◌∙◌}
 use Rattle.choosers.proofs.TableLaws.{block_turn}
 use Rattle.choosers.proofs.tables.past_full.Goals as goal
-
-pub loop-block-init : goal.loop-block-init
-loop-block-init c =
-    let e = c.into_iter-block-iterator.ensures.into_iter_gives in
-    let m = c.chunks_exact-block-items.ensures in
-    (ap chunks_exact_size e ∙ m.size, ap chunks_exact_rest e ∙ m.rest, omega arith, λ i p. absurd (omega arith))
 
 pub loop-block-preserved : goal.loop-block-preserved
 loop-block-preserved c =
