@@ -17,9 +17,11 @@ const HELD_MOST: usize = 81;
 
 // No line of a plan is longer, and no other answer.
 const PLACE_LINE: usize = 33;
+
 const ANSWER_LINE: usize = 32;
 
-// What a round is kept in and a plan written to: lists that are lent, since there is no heap.
+// What a round is kept in and a plan written to: lists that are lent, since there is no heap. The list that holds a line is lent
+// beside it, since a part of that is answered while the others are lent, and so is the list of what is put out.
 #[derive(Drop)]
 pub struct Memory<'a> {
     pub list: &'a mut [u32],

@@ -16,7 +16,7 @@ pub returns-then-line-lt-HELD_MOST-clause-answer : goal.returns-then-line-lt-HEL
 returns-then-line-lt-HELD_MOST-clause-answer c = feed_short _ _ _ _ _ c.if-self-gt-HELD_MOST.false c.if-line-self.false c.if-line-lt-HELD_MOST.true
 
 pub returns-in_default-clause-answer : goal.returns-in_default-clause-answer
-returns-in_default-clause-answer c = 
+returns-in_default-clause-answer c =
     feed_close _ _ _ _ _ c.if-self-gt-HELD_MOST.false c.if-line-self.false (omega (arith, c.in_default.ensures))
 
 pub returns-clause-answer : goal.returns-clause-answer
