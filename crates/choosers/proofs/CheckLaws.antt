@@ -1,36 +1,44 @@
 -- The test of a chooser's record against its list: the pass over the samples, and what follows from it.
 -- Assumes nothing.
-use mathlib.Core.Path.{◌≡◌, refl, ◌∙◌}
-use mathlib.Core.Bool.{true, false}
+use mathlib.Core.Path.{◌≡◌, refl, sym, ap, ◌∙◌}
+use mathlib.Core.Bool.{Bool, true, false, ◌&&◌}
 use mathlib.Core.List.{List, [], ◌∷◌, ◌++◌}
-use Prim.Native.Nat.{ℕ, zero, suc, ◌-◌, ◌^◌, ◌≤◌, ◌<◌}
+use Prim.Native.Nat.{ℕ, zero, suc, ◌≤◌, ◌<◌}
 use native.Mathlib.Omega.{arith}
 use borrow.Author.Tests.{lt-ltb, le-ltb, le-leb, lt-leb, leb-true, ltb-true}
 use lib.Dec.{ltb, leb}
-use lib.ListN.{length, get_or, take}
-use lib.Seq.{take-suc, length-take-le, get_or-take}
+use lib.ListN.{length, get_or, take, drop, get_or-append, take-append-drop}
+use lib.Seq.{take-suc, length-take-le, get_or-take, get_or-append_seam}
 use Rattle.lists.proofs.Keeping.{both}
-use Rattle.lists.proofs.Ascending.{Ascending, ascending_nil, ascending_snoc, ascending_last, ascending_init, rises_ge}
+use Rattle.lists.proofs.Ascending.{Ascending, length_snoc, ascending_nil, ascending_snoc, ascending_last, ascending_init, rises_ge}
 use Rattle.choosers.specs.declared.choose_k.ConsistentChooseKHasher.{ConsistentChooseKHasher}
 use Rattle.choosers.specs.ChooserCalls.{samples_of, ascends, fitting}
-use Rattle.choosers.specs.InnerChoosers.{Within}
 
--- ---- a turn of the pass, at index i − 1
+-- ---- a turn of the pass, at the last of the samples that are left
 
-pub rise_on : (l : List ℕ) (i n : ℕ) → 0 < i → get_or l (i - 1) 0 < n → ascends l i n ≡ ascends l (i - 1) (get_or l (i - 1) 0)
+-- only the first k entries are looked at
+ascends_front : (r xs : List ℕ) (k n : ℕ) → k ≤ length r → ascends (r ++ xs) k n ≡ ascends r k n
 unfolding ascends
-rise_on l zero n h e = absurd (omega arith)
-rise_on l (suc i) n h e = let z : suc i - 1 ≡ i = omega arith in rw (z, lt-ltb (get_or l i 0) n (rw z at e))
+ascends_front r xs zero n h = refl
+ascends_front r xs (suc k) n h =
+    rw (get_or-append r xs 0 k (omega arith)) (ap (λ (b : Bool). ltb (get_or r k 0) n && b) (ascends_front r xs k (get_or r k 0) (omega arith)))
 
-pub rise_stop : (l : List ℕ) (i n : ℕ) → 0 < i → n ≤ get_or l (i - 1) 0 → ascends l i n ≡ false
-unfolding ascends
-rise_stop l zero n h e = absurd (omega arith)
-rise_stop l (suc i) n h e = let z : suc i - 1 ≡ i = omega arith in rw (le-ltb (get_or l i 0) n (rw z at e))
+module _ (l r : List ℕ) (x n : ℕ) (is : l ≡ r ++ (x ∷ [])) where
+  ascends_last : ascends l (length l) n ≡ (ltb x n && ascends r (length r) x)
+  unfolding ascends
+  ascends_last =
+      rw (is, length_snoc r x, get_or-append_seam r x [] 0)
+      (ap (λ (b : Bool). ltb x n && b) (ascends_front r (x ∷ []) (length r) x (omega arith)))
 
-pub rise_end : (l : List ℕ) (i n : ℕ) → i ≤ 0 → ascends l i n ≡ true
+  pub rise_on : x < n → ascends l (length l) n ≡ ascends r (length r) x
+  rise_on h = ascends_last ∙ rw (lt-ltb x n h)
+
+  pub rise_stop : n ≤ x → ascends l (length l) n ≡ false
+  rise_stop h = ascends_last ∙ rw (le-ltb x n h)
+
+pub rise_end : (l : List ℕ) (n : ℕ) → length l ≡ 0 → ascends l (length l) n ≡ true
 unfolding ascends
-rise_end l zero n h = refl
-rise_end l (suc i) n h = absurd (omega arith)
+rise_end l n e = rw e
 
 -- ---- what it means
 
@@ -51,6 +59,15 @@ module _ (c : ConsistentChooseKHasher) (l : List ℕ) where
   pub fits_long : c.k ≤ length l → fitting c l ≡ ascends l c.k c.n
   unfolding fitting
   fits_long h = rw (le-leb c.k (length l) h)
+
+  -- the pass is over the samples alone
+  pub fits_rising : c.k ≤ length l → fitting c l ≡ ascends (samples_of c l) (length (samples_of c l)) c.n
+  fits_rising h =
+      let long : length (take c.k l) ≡ c.k = length-take-le c.k l h in
+      fits_long h
+      ∙ ap (λ (l : List ℕ). ascends l c.k c.n) (sym (take-append-drop c.k l))
+      ∙ ascends_front (take c.k l) (drop c.k l) c.k c.n (omega (arith, long))
+      ∙ ap (λ (k : ℕ). ascends (take c.k l) k c.n) (sym long)
 
   pub fits_short : length l < c.k → fitting c l ≡ false
   unfolding fitting
@@ -78,8 +95,10 @@ module _ (c : ConsistentChooseKHasher) (l : List ℕ) where
     pub sample_ge : (i : ℕ) → i < c.k → i ≤ get_or l i 0
     sample_ge i h = rw (get_or-take c.k l i 0 h) at (rises_ge (samples_of c l) c.n p.rising i (omega (arith, length-take-le c.k l p.within)))
 
-    pub samples_within : c.n ≤ 2 ^ 62 → Within l c.k
-    samples_within h i q = omega (arith, sample_below i q)
+    -- they ascend
+    pub sample_less : (i j : ℕ) → i < j → j < c.k → get_or l i 0 < get_or l j 0
+    sample_less i j h q =
+        rw (← get_or-take c.k l i 0 (omega arith), ← get_or-take c.k l j 0 q) (p.rising.rises i j h (omega (arith, length-take-le c.k l p.within)))
 
 -- ---- samples that ascend pass the test
 

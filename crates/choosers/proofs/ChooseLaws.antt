@@ -2,18 +2,17 @@
 -- Assumes nothing.
 use mathlib.Core.Path.{◌≡◌, refl, sym, ap, subst, ◌∙◌}
 use mathlib.Core.Logic.{◌⊎◌, inl, inr}
-use mathlib.Core.List.{List, ◌∷◌, ◌++◌}
+use mathlib.Core.List.{List, ◌∷◌, ◌++◌, append-nil}
 use Prim.Native.Nat.{ℕ, zero, suc, ◌+◌, ◌-◌, ◌≤◌, ◌<◌, max}
 use native.Mathlib.Omega.{arith}
 use native.Mathlib.Numerals.{add-one}
-use lib.ListN.{length, get_or, set, drop, length-set}
-use lib.Seq.{get_or-set_same, get_or-set_other, drop-cons, drop-drop, drop-set-lt, append_snoc}
-use Rattle.lists.specs.Lists.{written}
+use lib.ListN.{length, get_or, set, drop, replicate, length-set, length-append, length-replicate, get_or-append, get_or-replicate, drop_of_length-le}
+use lib.Seq.{get_or-set_same, get_or-set_other, drop-cons, drop-append_seam, drop-set-lt, append_snoc}
 use Rattle.lists.proofs.Tests.{by_same}
 use Rattle.lists.proofs.Writing.{set_holds}
 use Rattle.choosers.specs.Choosers.{g, largest_g, S}
-use Rattle.choosers.specs.InnerChoosers.{Owns, OwnOr, SameFrom}
-use Rattle.choosers.proofs.SampleLaws.{g_top, g_same, top_lt, top_ge, length_S}
+use Rattle.choosers.specs.InnerChoosers.{Owns, OwnOr}
+use Rattle.choosers.proofs.SampleLaws.{g_top, g_same, top_lt, top_ge}
 use Rattle.choosers.proofs.LoweringLaws.{S_open}
 
 module _ (s : ℕ) where
@@ -35,70 +34,69 @@ module _ (s : ℕ) where
 
   -- ---- from S(i, b) to S(i − 1, its last)
 
-  -- The places below i hold the own values below a bound b, `high` is the largest of them; with S(i, b) before what stands from
-  -- place i on, the list is what it is to be.
-  pub record Choosing (k n : ℕ) (before now : List ℕ) (high i : ℕ) : Type 0 where
-    pub bound : ℕ
-    pub few : i ≤ bound
-    pub small : bound ≤ n
-    pub largest : high ≡ largest_g s i bound
-    pub owns : Owns s now i bound
-    pub whole : written (S s k n) before ≡ S s i bound ++ drop i now
+  -- Each place below i holds its own value below the bound b, or b; with S(i, b) before what stands from place i on, the list is
+  -- what it is to be.
+  pub record Choosing (k n : ℕ) (now : List ℕ) (b i : ℕ) : Type 0 where
+    pub few : i ≤ b
+    pub small : b ≤ n
+    pub owns : OwnOr s now i b
+    pub whole : S s k n ≡ S s i b ++ drop i now
 
-  pub choosing_first : (k n : ℕ) (now : List ℕ) (high : ℕ) → k ≤ n → high ≡ largest_g s k n → Owns s now k n → Choosing k n now now high k
-  unfolding written
-  choosing_first k n now high h e o = record {
-    bound = n;
+  pub choosing_first : (k n : ℕ) (now : List ℕ) → k ≤ n → now ≡ replicate k n → Choosing k n now n k
+  choosing_first k n now h e = record {
     few = h;
     small = omega arith;
-    largest = e;
-    owns = o;
-    whole = rw (length_S s k n);
+    owns = λ i p. inl (ap (λ (l : List ℕ). get_or l i 0) e ∙ get_or-replicate k i n 0 p);
+    whole = sym (ap (λ (l : List ℕ). S s k n ++ l) (drop_of_length-le now {i = k} (omega (arith, ap length e, length-replicate k n))) ∙ append-nil (S s k n));
   }
 
-  pub choosing_done : (k n : ℕ) (entry before now : List ℕ) (high i : ℕ) → SameFrom k entry before → i ≤ 0 → Choosing k n before now high i → now ≡ written (S s k n) entry
-  unfolding S written
-  choosing_done k n entry before now high zero q h c = sym c.whole ∙ ap (λ (z : List ℕ). S s k n ++ z) (ap (λ (i : ℕ). drop i before) (length_S s k n) ∙ q ∙ ap (λ (i : ℕ). drop i entry) (sym (length_S s k n)))
-  choosing_done k n entry before now high (suc i) q h c = absurd (omega arith)
+  pub choosing_done : (k n : ℕ) (now : List ℕ) (b i : ℕ) → i ≤ 0 → Choosing k n now b i → now ≡ S s k n
+  unfolding S
+  choosing_done k n now b zero h c = sym c.whole
+  choosing_done k n now b (suc i) h c = absurd (omega arith)
 
   -- a loop has i and i − 1
-  pub choosing_at : (k n : ℕ) (before now : List ℕ) (high i : ℕ) → 0 < i → Choosing k n before now high i → Choosing k n before now high (suc (i - 1))
-  choosing_at k n before now high i h c = let e : i ≡ suc (i - 1) = omega arith in subst (λ (j : ℕ). Choosing k n before now high j) e c
+  pub choosing_at : (k n : ℕ) (now : List ℕ) (b i : ℕ) → 0 < i → Choosing k n now b i → Choosing k n now b (suc (i - 1))
+  choosing_at k n now b i h c = let e : i ≡ suc (i - 1) = omega arith in subst (λ (j : ℕ). Choosing k n now b j) e c
 
-  module _ (k n : ℕ) (before now : List ℕ) (high j : ℕ) (c : Choosing k n before now high (suc j)) where
-    pub high_ge : j ≤ high
-    high_ge = rw c.largest (top_ge s j c.bound)
+  -- the first j + 1 places come to hold their own values, and place j the largest of them
+  module _ (k n : ℕ) (now : List ℕ) (b j : ℕ) (c : Choosing k n now b (suc j)) (front : List ℕ) (long : length front ≡ suc j) (own : Owns s front (suc j) b)
+      (r : ℕ) (top : r ≡ largest_g s (suc j) b) where
+    next : List ℕ
+    next = front ++ drop (suc j) now
 
-    pub high_lt : high < n
-    high_lt = omega (arith, c.largest, c.few, c.small, top_lt s (suc j) c.bound c.few (omega (arith, c.few)))
+    j_in : j < length next
+    unfolding next
+    j_in = omega (arith, length-append front (drop (suc j) now), long)
 
-    pub high_own : OwnOr s now j high
-    high_own i p =
-        by_same (get_or now i 0) high
-        (λ q. inl q)
-        (λ q. let e : get_or now i 0 ≡ g s i c.bound = c.owns i (omega arith) in
-        let l : g s i c.bound ≤ high = rw c.largest (g_top s (suc j) c.bound i (omega arith)) in
-        inr (e ∙ sym (g_same s i high c.bound (omega (arith, high_ge)) (omega (arith, c.largest, c.few, top_lt s (suc j) c.bound c.few (omega (arith, c.few)))) (omega (arith, q)))))
+    high_lt : r < b
+    high_lt = omega (arith, top, c.few, top_lt s (suc j) b c.few (omega (arith, c.few)))
 
-    -- the places below j hold the own values below `high`, place j holds it
-    module _ (next : List ℕ) (r : ℕ) (long : j < length next) (e : r ≡ largest_g s j high) (o : Owns s next j high) (q : SameFrom j now next) where
-      drop_next : drop j (set next j high) ≡ high ∷ drop (suc j) now
-      drop_next =
-          drop-cons (set next j high) j 0 (rw (length-set next j high) long)
-          ∙ rw (get_or-set_same next j high 0 long, drop-set-lt (suc j) next j high (omega arith))
-          (ap (λ (z : List ℕ). high ∷ z) (one_more next ∙ ap (drop 1) q ∙ sym (one_more now)))
-        where
-          one_more : (l : List ℕ) → drop (suc j) l ≡ drop 1 (drop j l)
-          one_more l = ap (λ (i : ℕ). drop i l) (sym (add-one j)) ∙ sym (drop-drop 1 j l)
+    drop_next : drop j (set next j r) ≡ r ∷ drop (suc j) now
+    unfolding next
+    drop_next =
+        drop-cons (set next j r) j 0 (rw (length-set next j r) j_in)
+        ∙ rw (get_or-set_same next j r 0 j_in, drop-set-lt (suc j) next j r (omega arith))
+        (ap (λ (l : List ℕ). r ∷ l) (ap (λ (m : ℕ). drop m next) (sym long) ∙ drop-append_seam front (drop (suc j) now)))
 
-      pub choosing_next : Choosing k n before (set next j high) r j
-      choosing_next = record {
-        bound = high;
-        few = high_ge;
-        small = omega (arith, high_lt);
-        largest = e;
-        owns = λ i p. rw (get_or-set_other next j i high 0 (λ z. omega (arith, z))) (o i p);
-        whole =
-            c.whole
-            ∙ rw (S_open s j c.bound, ← c.largest, append_snoc (S s j high) high (drop (suc j) now), drop_next);
-      }
+    own_next : OwnOr s (set next j r) j r
+    unfolding next
+    own_next i p =
+        let e : get_or (set next j r) i 0 ≡ g s i b
+        = get_or-set_other next j i r 0 (λ z. omega (arith, z)) ∙ get_or-append front (drop (suc j) now) 0 i (omega (arith, long)) ∙ own i (omega arith) in
+        by_same (g s i b) r
+        (λ q. inl (e ∙ q))
+        (λ q. let l : g s i b ≤ r = rw top (g_top s (suc j) b i (omega arith)) in
+        inr (e ∙ sym (g_same s i r b (omega (arith, high_ge)) (omega (arith, high_lt)) (omega (arith, q)))))
+      where
+        high_ge : j ≤ r
+        high_ge = rw top (top_ge s j b)
+
+    pub choosing_next : Choosing k n (set (front ++ drop (suc j) now) j r) r j
+    unfolding next
+    choosing_next = record {
+      few = rw top (top_ge s j b);
+      small = omega (arith, high_lt, c.small);
+      owns = own_next;
+      whole = c.whole ∙ rw (S_open s j b, ← top, append_snoc (S s j r) r (drop (suc j) now), drop_next);
+    }

@@ -12,6 +12,7 @@ pub mod ConsistentLaws
 pub mod ChooserWalkLaws
 pub mod StepLaws
 pub mod FitLaws
+pub mod HoldingLaws
 pub mod LookupLaws
 pub mod LookLaws
 pub mod TableLaws

@@ -4,17 +4,20 @@ use mathlib.Core.Path.{◌≡◌, refl, sym, ap, ◌∙◌}
 use mathlib.Core.Bool.{Bool, true, false}
 use mathlib.Core.List.{List, ◌++◌}
 use mathlib.Core.Option.{none, some}
-use Prim.Native.Nat.{ℕ, suc, ◌+◌, ◌≤◌, ◌<◌, min}
+use Prim.Native.Nat.{ℕ, suc, ◌+◌, ◌-◌, ◌≤◌, ◌<◌, min}
 use native.Mathlib.Omega.{arith}
 use native.Mathlib.Numerals.{add-one}
 use borrow.Author.Tests.{lt-ltb}
 use lib.Dec.{eqb}
 use lib.ListN.{length, get_or, take, drop, length-take, get_or-append}
-use lib.Seq.{take_at, get_or-take}
+use lib.Seq.{take_at, length-take-le, get_or-take}
+use Rattle.std.specs.List.{take-map}
+use Rattle.std.proofs.lemmas.List.{take-take, map-append, length-map, take-append-le}
 use Rattle.lists.specs.Lists.{find}
 use Rattle.lists.proofs.Finding.{find_next, find_hit, find_over}
 use Rattle.choosers.specs.Choosers.{S, Q, Moved, moved}
 use Rattle.choosers.specs.InnerChoosers.{grow_in}
+use Rattle.choosers.specs.InnerPlaces.{low, lows, Stands}
 use Rattle.choosers.specs.Slots.{active}
 use Rattle.choosers.specs.SlotCalls.{look_up}
 use Rattle.choosers.proofs.SampleLaws.{length_S}
@@ -49,6 +52,28 @@ module _ (s k n : ℕ) (l : List ℕ) (h : k < n) (e : take k l ≡ S s k n) whe
         place_in = omega (arith, index, place_le s k n);
         number = rw (list, index) number_is;
       }
+
+-- ---- the first k + 1 places of a scratch
+
+pub one_less : (k : ℕ) (l : List ℕ) → k < length l → length (take (k + 1) l) - 1 ≡ k
+one_less k l h = omega (arith, length-take-le (k + 1) l (omega arith))
+
+module _ (s n k : ℕ) (l : List ℕ) (h : k < length l) where
+  pub stands_front : Stands s l k n → Stands s (take (k + 1) l) (length (take (k + 1) l) - 1) n
+  stands_front (e, kept) =
+      let same : take k (lows (take (k + 1) l)) ≡ take k (lows l)
+      = ap (take k) (sym (take-map low (k + 1) l)) ∙ take-take k (k + 1) (lows l) (omega arith) in
+      rw (one_less k l h)
+      (same ∙ e, λ i p. rw (get_or-take (k + 1) l i 0 (omega arith)) (kept i p))
+
+  pub stands_whole : (new : List ℕ) → length new ≡ length (take (k + 1) l) → Stands s new (length new) n → Stands s (new ++ drop (k + 1) l) (k + 1) n
+  stands_whole new long (e, kept) =
+      let m : length new ≡ k + 1 = long ∙ length-take-le (k + 1) l (omega arith) in
+      let front : take (k + 1) (lows (new ++ drop (k + 1) l)) ≡ take (k + 1) (lows new)
+      = ap (take (k + 1)) (map-append low new (drop (k + 1) l)) ∙ take-append-le (k + 1) (lows new) (lows (drop (k + 1) l)) (omega (arith, m, length-map new low)) in (
+        front ∙ rw m at e,
+        λ i p. rw (get_or-append new (drop (k + 1) l) 0 i (omega (arith, m))) (kept i (omega (arith, m))),
+      )
 
 -- ---- the search for an active slot over the first m numbers of Q(c)
 

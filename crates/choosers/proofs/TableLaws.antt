@@ -2,25 +2,31 @@
 -- Assumes nothing.
 use mathlib.Core.Path.{◌≡◌, refl, sym, ap, ◌∙◌}
 use mathlib.Core.Logic.{◌≢◌}
-use mathlib.Core.Bool.{true, false, not, ◌&&◌}
-use mathlib.Core.List.{List}
-use mathlib.Core.Option
-use mathlib.Core.Option.{Option}
-use Prim.Native.Nat.{ℕ, zero, suc, ◌+◌, ◌-◌, ◌≤◌, ◌<◌, max, min}
+use mathlib.Core.Bool.{Bool, true, false, not, true≢false, ◌&&◌}
+use mathlib.Core.List.{List, [], ◌∷◌, ◌++◌}
+use Rattle.std.specs.Prelude.{◌↔◌, Contains}
+use Rattle.std.proofs.lemmas.Grind.{get_or_default_zero}
+use Rattle.std.specs.Prelude.{Option, Some, None, unwrap_or, option_map}
+use Rattle.std.specs.Option.{option_eq}
+use denote.Ref.{Bor}
+use mathlib.Core.Option as maybe
+use Prim.Native.Nat.{ℕ, suc, ◌+◌, ◌-◌, ◌≤◌, ◌<◌, max, min}
 use native.Mathlib.Numerals.{add-one}
 use native.Mathlib.Omega.{arith}
-use borrow.Author.Tests.{lt-ltb, le-ltb, le-leb, lt-leb, ne_eqb, ltb-true, eqb-true, eqb-false, leb-true}
+use borrow.Author.Tests.{lt-ltb, le-ltb, le-leb, lt-leb, eq-eqb, ne_eqb, ltb-true, eqb-true, leb-true}
 use lib.Dec.{ltb, leb, eqb}
-use lib.ListN.{length, get_or, take, drop, length-drop}
-use lib.Seq.{take-suc, get_or-drop}
-use Rattle.lists.specs.Lists.{keep, zero_to, every, not_below, first_from}
+use lib.ListN.{length, get_or, take, drop, length-drop, length-append, get_or-append, get_or-eq_default}
+use lib.Seq.{take-suc, take_all, length-take-le, get_or-drop, get_or-take, drop-append_seam, drop-drop}
+use Rattle.lists.specs.Lists.{keep, occurrences, zero_to, every, not_below, first_from}
 use Rattle.lists.proofs.Tests.{by_below, by_same}
-use Rattle.lists.proofs.Keeping.{both}
+use Rattle.lists.proofs.Keeping.{both, keep_same}
+use Rattle.lists.proofs.Members.{keep_none, occurrences_keep_yes}
 use Rattle.lists.proofs.Prefixes.{keep_snoc_yes, keep_snoc_no}
-use Rattle.lists.proofs.Ranges.{zero_to_snoc, every_snoc, every_place}
-use Rattle.lists.proofs.Searching.{by_first}
+use Rattle.lists.proofs.Ranges.{zero_to_snoc, occurrences_from, every_snoc, every_place}
+use Rattle.lists.proofs.Searching.{by_first, first_some, first_none}
 use Rattle.choosers.specs.Slots.{active, deleted, actives, vacant}
 use Rattle.choosers.specs.SlotCalls.{at_most_one}
+use Rattle.choosers.specs.InnerSlots.{Taken}
 
 -- ---- active and deleted, from facts and back
 
@@ -55,6 +61,11 @@ pub deleted_byte : (t : List ℕ) (c x : ℕ) → x < c → deleted t c x ≡ eq
 unfolding deleted
 deleted_byte t c x h = rw (lt-ltb x c h)
 
+-- the byte that a read of the table gives, if it is there, is 1
+pub reads_one : (o : Option (Bor ℕ)) (one : Bor ℕ) (b : ℕ) → one.now ≡ 1 → unwrap_or (option_map (λ x. x.now) o) 0 ≡ b → option_eq (λ x y. eqb x.now y.now) o (Some one) ≡ eqb b 1
+reads_one None one b e q = ap (λ (b : ℕ). eqb b 1) q
+reads_one (Some x) one b e q = ap (eqb x.now) e ∙ ap (λ (b : ℕ). eqb b 1) q
+
 -- ---- small: no byte above 1, by the largest so far
 
 leb_max : (a b : ℕ) → leb (max a b) 1 ≡ (leb a 1 && leb b 1)
@@ -65,14 +76,14 @@ leb_max a b =
     (λ q. rw (lt-leb (max a b) 1 (omega arith), le-leb a 1 (omega arith), lt-leb b 1 (omega arith))))
     (λ p. rw (lt-leb (max a b) 1 (omega arith), lt-leb a 1 (omega arith)))
 
-pub small_none : (t : List ℕ) → every at_most_one (take 0 t) ≡ leb 0 1
+pub small_none : every at_most_one [] ≡ leb 0 1
 unfolding every
-small_none t = refl
+small_none = refl
 
 pub small_turn : (t : List ℕ) (i a r : ℕ) → i < length t → r ≡ max a (get_or t i 0) → every at_most_one (take i t) ≡ leb a 1 → every at_most_one (take (i + 1) t) ≡ leb r 1
 small_turn t i a r h e q = rw (add-one, take-suc t i 0 h, every_snoc at_most_one (take i t) (get_or t i 0), q, e) (sym (leb_max a (get_or t i 0)))
 
--- ---- full: none of the bytes from x on is 0, by the smallest so far
+-- ---- full: no byte is 0, by the smallest so far
 
 leb_min : (a b : ℕ) → leb 1 (min a b) ≡ (leb 1 a && leb 1 b)
 leb_min a b =
@@ -82,61 +93,56 @@ leb_min a b =
     (λ q. rw (lt-leb 1 (min a b) (omega arith), le-leb 1 a (omega arith), lt-leb 1 b (omega arith)))
     (λ q. rw (le-leb 1 (min a b) (omega arith), le-leb 1 a (omega arith), le-leb 1 b (omega arith))))
 
-pub full_none : (t : List ℕ) (x : ℕ) → every (not_below 1) (take 0 (drop x t)) ≡ leb 1 255
+pub full_none : every (not_below 1) [] ≡ leb 1 255
 unfolding every
-full_none t x = refl
+full_none = refl
 
-pub full_turn : (t : List ℕ) (x i a r : ℕ) → x + i < length t → r ≡ min a (get_or t (x + i) 0) → every (not_below 1) (take i (drop x t)) ≡ leb 1 a → every (not_below 1) (take (i + 1) (drop x t)) ≡ leb 1 r
+pub full_turn : (t : List ℕ) (i a r : ℕ) → i < length t → r ≡ min a (get_or t i 0) → every (not_below 1) (take i t) ≡ leb 1 a → every (not_below 1) (take (i + 1) t) ≡ leb 1 r
 unfolding not_below
-full_turn t x i a r h e q =
-    let l : i < length (drop x t) = omega (arith, length-drop x t) in
-    rw (add-one, take-suc (drop x t) i 0 l, every_snoc (not_below 1) (take i (drop x t)) (get_or (drop x t) i 0), get_or-drop x t i 0, q, e) (sym (leb_min a (get_or t (x + i) 0)))
-
--- ---- lowest: no byte below x is 0
+full_turn t i a r h e q =
+    rw (add-one, take-suc t i 0 h, every_snoc (not_below 1) (take i t) (get_or t i 0), q, e) (sym (leb_min a (get_or t i 0)))
 
 -- by cases: the lowest deleted slot, or the count
 pub by_vacant : {C : Type 0} (t : List ℕ) (c : ℕ) → (vacant t c < c → get_or t (vacant t c) 0 ≡ 0 → C) → (vacant t c ≡ c → C) → C
 unfolding vacant
 by_vacant t c f g =
     by_first (deleted t c) 0 c
-    (λ i e l h y b. let v : Option.get_or (first_from (deleted t c) 0 c) c ≡ i = ap (λ (o : Option ℕ). Option.get_or o c) e in
+    (λ i e l h y b. let v : maybe.get_or (first_from (deleted t c) 0 c) c ≡ i = ap (λ (o : maybe.Option ℕ). maybe.get_or o c) e in
     f (omega arith) (ap (λ (x : ℕ). get_or t x 0) v ∙ eqb-true (get_or t i 0) 0 (sym (deleted_byte t c i (omega arith)) ∙ y)))
-    (λ e b. g (ap (λ (o : Option ℕ). Option.get_or o c) e))
+    (λ e b. g (ap (λ (o : maybe.Option ℕ). maybe.get_or o c) e))
 
-pub vacant_hit : (t : List ℕ) (c x : ℕ) → x < c → get_or t x 0 ≡ 0 → vacant t c ≤ x
-unfolding vacant
-vacant_hit t c x h z =
-    by_first (deleted t c) 0 c
-    (λ i e l g y b. let v : Option.get_or (first_from (deleted t c) 0 c) c ≡ i = ap (λ (o : Option ℕ). Option.get_or o c) e in
-    by_below x i (λ m. absurd (no (b x (omega arith) m))) (λ m. omega arith))
-    (λ e b. absurd (no (b x (omega arith) (omega arith))))
-  where
-    no : deleted t c x ≢ false
-    no f = eqb-false (get_or t x 0) 0 (sym (deleted_byte t c x h) ∙ f) z
+-- ---- lowest: no byte below x is 0
 
-pub vacant_turn : (t : List ℕ) (c x : ℕ) → x < c → get_or t x 0 ≢ 0 → x ≤ vacant t c → x + 1 ≤ vacant t c
-vacant_turn t c x h d l =
-    by_vacant t c
-    (λ g z. by_same (vacant t c) x (λ e. absurd (d (ap (λ (i : ℕ). get_or t i 0) (sym e) ∙ z))) (λ n. omega arith))
-    (λ e. omega arith)
+-- i bytes more
+pub taken_on : (t : List ℕ) (x i : ℕ) → Taken t x → Taken (drop x t) i → Taken t (x + i)
+taken_on t x i taken more j h =
+    by_below j x
+    (λ l. taken j l)
+    (λ l z. more (j - x) (omega arith) (get_or-drop x t (j - x) 0 ∙ ap (λ (k : ℕ). get_or t k 0) (omega arith) ∙ z))
 
-pub vacant_end : (t : List ℕ) (c x : ℕ) → c ≤ x → x ≤ vacant t c → c ≡ vacant t c
-vacant_end t c x h l = by_vacant t c (λ g z. absurd (omega arith)) (λ e. sym e)
-
--- n bytes at once
-pub vacant_past : (t : List ℕ) (c x n : ℕ) → x + n ≤ c → c ≤ length t → every (not_below 1) (take n (drop x t)) ≡ true → x ≤ vacant t c → x + n ≤ vacant t c
+-- a block that begins at x has no 0
+pub block_turn : (t rest block more : List ℕ) (x : ℕ) → rest ≡ drop x t → x ≤ length t → Taken t x → rest ≡ block ++ more → length block ≡ 32 → every (not_below 1) block ≡ true
+    → (more ≡ drop (x + 32) t) × (x + 32 ≤ length t) × Taken t (x + 32)
 unfolding not_below
-vacant_past t c x n h k e l =
-    by_vacant t c
-    (λ g z. by_below (vacant t c) (x + n)
-    (λ m. let i : ℕ = vacant t c - x in
-    let s : x + i ≡ vacant t c = omega arith in
-    let b : 1 ≤ get_or (drop x t) i 0 = leb-true 1 (get_or (drop x t) i 0) (every_place (not_below 1) (drop x t) n i e (omega arith) (omega (arith, length-drop x t))) in
-    absurd (omega (arith, b, get_or-drop x t i 0, ap (λ (j : ℕ). get_or t j 0) s, z)))
-    (λ m. m))
-    (λ v. omega arith)
+block_turn t rest block more x e l taken cut long full =
+    let is : drop x t ≡ block ++ more = sym e ∙ cut in
+    let all : every (not_below 1) (take (length block) block) ≡ true = ap (every (not_below 1)) (take_all (length block) block (omega arith)) ∙ full in (
+      sym (drop-append_seam block more) ∙ ap (λ (n : ℕ). drop n (block ++ more)) long ∙ ap (drop 32) (sym is) ∙ drop-drop 32 x t,
+      omega (arith, length-drop x t, length-append block more, ap length is),
+      taken_on t x 32 taken (λ i h z.
+          let b : 1 ≤ get_or block i 0 = leb-true 1 (get_or block i 0) (every_place (not_below 1) block (length block) i all (omega arith) (omega arith)) in
+          omega (arith, b, ap (λ (u : List ℕ). get_or u i 0) is, get_or-append block more 0 i (omega arith), z)),
+    )
 
--- ---- any, sum: how many of the slots below i are active
+-- the lowest 0 of those from x on
+pub lowest_some : (t : List ℕ) (x i : ℕ) → x ≤ length t → Taken t x → i < length (drop x t) → get_or (drop x t) i 0 ≡ 0 → Taken (drop x t) i
+    → (x + i < length t) × (get_or t (x + i) 0 ≡ 0) × Taken t (x + i)
+lowest_some t x i l taken h z more = (omega (arith, length-drop x t), sym (get_or-drop x t i 0) ∙ z, taken_on t x i taken more)
+
+pub lowest_none : (t : List ℕ) (x : ℕ) → x ≤ length t → Taken t x → Taken (drop x t) (length (drop x t)) → Taken t (length t)
+lowest_none t x l taken more i h = taken_on t x (length (drop x t)) taken more i (omega (arith, length-drop x t))
+
+-- ---- sum: how many of the slots below i are active
 
 abbrev pub active_below : List ℕ → ℕ → ℕ → ℕ
 active_below t c i = length (keep (active t c) (zero_to i))
@@ -152,25 +158,78 @@ more_yes t c i h e = ap (λ (r : List ℕ). length (keep (active t c) r)) (zero_
 pub more_no : (t : List ℕ) (c i : ℕ) → get_or t i 0 ≢ 1 → active_below t c (i + 1) ≡ active_below t c i
 more_no t c i d = ap (λ (r : List ℕ). length (keep (active t c) r)) (zero_to_snoc i) ∙ keep_snoc_no (active t c) (zero_to i) i (active_no t c i d)
 
--- from the count down: slot i − 1 is looked at, where those from i up are not active
-pub any_hit : (t : List ℕ) (c i : ℕ) → 0 < i → i ≤ c → get_or t (i - 1) 0 ≡ 1 → active_below t c i ≡ length (actives t c) → true ≡ not (eqb (length (actives t c)) 0)
-any_hit t c i p h e q =
-    let z : i - 1 + 1 ≡ i = omega arith in
-    let one : active_below t c i ≡ suc (active_below t c (i - 1)) = rw z at (more_yes t c (i - 1) (omega arith) e) in
-    rw (ne_eqb (length (actives t c)) 0 (λ n. omega arith))
-
-pub any_turn : (t : List ℕ) (c i : ℕ) → 0 < i → get_or t (i - 1) 0 ≢ 1 → active_below t c (i - 1) ≡ active_below t c i
-any_turn t c i p d = let z : i - 1 + 1 ≡ i = omega arith in sym (rw z at (more_no t c (i - 1) d))
-
-pub any_end : (t : List ℕ) (c i : ℕ) → i ≤ 0 → active_below t c i ≡ length (actives t c) → false ≡ not (eqb (length (actives t c)) 0)
-any_end t c zero h q = rw (← q)
-any_end t c (suc i) h q = absurd (omega arith)
-
-pub byte_small : (t : List ℕ) (c i : ℕ) → every at_most_one (take c t) ≡ true → i < c → c ≤ length t → get_or t i 0 ≤ 1
-byte_small t c i e h l = leb-true (get_or t i 0) 1 (every_place at_most_one t c i e h (omega arith))
+pub byte_small : (t : List ℕ) (i : ℕ) → every at_most_one t ≡ true → i < length t → get_or t i 0 ≤ 1
+byte_small t i e h =
+    leb-true (get_or t i 0) 1 (every_place at_most_one t (length t) i (rw (take_all (length t) t (omega arith)) e) h (omega arith))
 
 pub sum_turn : (t : List ℕ) (c i : ℕ) → i < c → get_or t i 0 ≤ 1 → active_below t c (i + 1) ≡ active_below t c i + get_or t i 0
 sum_turn t c i h b =
     by_same (get_or t i 0) 1
     (λ e. omega (arith, more_yes t c i h e))
     (λ d. omega (arith, more_no t c i d))
+
+not_empty : (x : ℕ) (xs : List ℕ) → 0 < occurrences x xs → true ≡ not (eqb (length xs) 0)
+not_empty x [] h = absurd (omega arith)
+not_empty x (y ∷ xs) h = rw (ne_eqb (length (y ∷ xs)) 0 (λ e. omega arith))
+
+-- ---- the bytes u of the slots below the count c, in place of the table t
+
+module _ (t u : List ℕ) (c : ℕ) (is : u ≡ take c t) (within : c ≤ length t) where
+  long : length u ≡ c
+  long = ap length is ∙ length-take-le c t within
+
+  byte_is : (i : ℕ) → i < c → get_or u i 0 ≡ get_or t i 0
+  byte_is i h = ap (λ (u : List ℕ). get_or u i 0) is ∙ get_or-take c t i 0 h
+
+  pub actives_front : actives u (length u) ≡ actives t c
+  unfolding actives
+  actives_front =
+      rw long
+      (keep_same (active u c) (active t c)
+      (λ x. by_below x c
+      (λ h. active_same u t c c x refl (byte_is x h))
+      (λ h. active_over u c x h ∙ sym (active_over t c x h)))
+      (zero_to c))
+
+  deleted_no : (i : ℕ) → i < c → get_or u i 0 ≢ 0 → deleted t c i ≡ false
+  deleted_no i h d = deleted_byte t c i h ∙ ne_eqb (get_or t i 0) 0 (λ e. d (byte_is i h ∙ e))
+
+  -- the lowest 0 of them is the lowest deleted slot
+  pub vacant_some : (x : ℕ) → x < length u → get_or u x 0 ≡ 0 → Taken u x → x ≡ vacant t c
+  unfolding vacant
+  vacant_some x l z taken =
+      let h : x < c = omega (arith, long) in
+      sym (ap (λ (o : maybe.Option ℕ). maybe.get_or o c) (first_some (deleted t c) x 0 c (omega arith) (omega arith)
+      (deleted_byte t c x h ∙ eq-eqb (get_or t x 0) 0 (sym (byte_is x h) ∙ z))
+      (λ i g k. deleted_no i (omega arith) (taken i k))))
+
+  pub vacant_none : Taken u (length u) → c ≡ vacant t c
+  unfolding vacant
+  vacant_none taken =
+      sym (ap (λ (o : maybe.Option ℕ). maybe.get_or o c) (first_none (deleted t c) 0 c
+      (λ i g k. deleted_no i (omega arith) (taken i (omega (arith, long))))))
+
+  -- where one of them is 1, a slot is active
+  pub some_active : (b : Bool) → ((b ≡ true) ↔ Contains u 1) → b ≡ not (eqb (length (actives t c)) 0)
+  unfolding actives
+  some_active true f =
+      let (i, h, e) = f.0 refl in
+      let l : i < c = omega (arith, long) in
+      let y : active t c i ≡ true = active_yes t c i l (sym (byte_is i l) ∙ sym (get_or_default_zero u i 1 h) ∙ e) in
+      not_empty i (keep (active t c) (zero_to c)) (omega (arith, occurrences_keep_yes (active t c) i (zero_to c) y, occurrences_from i 0 c (omega arith) (omega arith)))
+  some_active false f =
+      let none : keep (active t c) (zero_to c) ≡ []
+      = keep_none (active t c) (zero_to c) (λ x _.
+      by_below x c
+      (λ l. active_byte t c x l ∙ ne_eqb (get_or t x 0) 1 (λ e.
+      let h : x < length u = omega (arith, long) in
+      true≢false (sym (f.1 (x, h, get_or_default_zero u x 1 h ∙ byte_is x l ∙ e)))))
+      (λ l. active_over t c x l)) in
+      ap (λ (xs : List ℕ). not (eqb (length xs) 0)) (sym none)
+
+  -- a slot is active where its byte is there and is 1
+  pub slot_active : (x : ℕ) → active t c x ≡ eqb (get_or u x 0) 1
+  slot_active x =
+      by_below x c
+      (λ h. active_byte t c x h ∙ ap (λ (b : ℕ). eqb b 1) (sym (byte_is x h)))
+      (λ h. active_over t c x h ∙ ap (λ (b : ℕ). eqb b 1) (sym (get_or-eq_default u 0 (omega (arith, long)))))

@@ -3,17 +3,16 @@
 use mathlib.Core.Path.{◌≡◌, refl, ap, ◌∙◌}
 use mathlib.Core.Logic.{◌≢◌}
 use mathlib.Core.List.{List, [], ◌∷◌, ◌++◌, append_assoc}
-use Prim.Native.Nat.{ℕ, zero, suc, ◌-◌, ◌^◌, ◌≤◌, ◌<◌, max}
+use Prim.Native.Nat.{ℕ, zero, suc, ◌-◌, ◌≤◌, ◌<◌, max}
 use native.Mathlib.Omega.{arith}
 use borrow.Author.Tests.{lt-ltb, le-ltb, eq-eqb, ne_eqb}
 use lib.Dec.{ltb}
 use lib.ListN.{length, get_or, set, take, drop, length-set, take-append-drop, get_or-append}
 use lib.Seq.{length-take-le, drop-cons, set-append_left, set_split, set_at}
 use Rattle.lists.proofs.Ascending.{last_take}
-use Rattle.lists.proofs.Tests.{by_test, by_below}
+use Rattle.lists.proofs.Tests.{by_test}
 use Rattle.choosers.specs.Choosers.{g, Moved, moved, larger, lower_at, lower, grow}
-use Rattle.choosers.specs.InnerChoosers.{grow_in, Within}
-use Rattle.choosers.proofs.SampleLaws.{g_lt, g_ge}
+use Rattle.choosers.specs.InnerChoosers.{grow_in}
 use Rattle.choosers.proofs.LoweringLaws.{larger_front}
 
 module _ (s : ℕ) where
@@ -46,12 +45,6 @@ module _ (s : ℕ) where
   unfolding larger
   larger_later zero l m h = absurd (omega arith)
   larger_later (suc j) l m h = let z : suc j - 1 ≡ j = omega arith in rw z
-
-  -- i is below the m of the next turn: g is asked only there
-  pub larger_ge : (l : List ℕ) (i m : ℕ) → i ≤ larger s l i m
-  unfolding larger
-  larger_ge l zero m = omega arith
-  larger_ge l (suc i) m = omega (arith, g_ge s (suc i) m)
 
   -- ---- lower touches the entries below its index only
 
@@ -122,11 +115,3 @@ module _ (s : ℕ) where
         let index : p ≡ down.index = ap (λ (z : Moved). z.index) both in
         rw (long, last_take k l (omega (arith, e)) (omega arith), q, ne_eqb k 0 e, le-ltb b (g s k n) h, append_assoc down.samples (b ∷ []) (drop (suc k) l), list, index)
         (ap (λ (z : List ℕ). moved z down.index) (set_at down.samples (get_or l k 0) (drop (suc k) l) b k (lowered_length b)))
-
-  -- ---- within the limit
-
-  pub larger_within : (l : List ℕ) (i m : ℕ) → 0 < i → i ≤ m → m ≤ 2 ^ 62 → Within l i → larger s l (i - 1) m ≤ 2 ^ 62
-  larger_within l i m h e f w =
-      by_below 0 (i - 1)
-      (λ p. omega (arith, larger_later (i - 1) l m p, w (i - 1 - 1) (omega arith), g_lt s (i - 1) m (omega arith)))
-      (λ p. omega (arith, larger_first (i - 1) l m p, g_lt s (i - 1) m (omega arith)))

@@ -1,6 +1,6 @@
 -- What private functions of the choosers leave. No public promise cites it.
 -- Assumes nothing.
-use Rattle.std.specs.Prelude.{◌≡◌, ◌⊎◌, cond, List, ◌++◌, ℕ, suc, ◌^◌, ltb, ◌<◌, ◌≤◌, get_or, take, drop}
+use Rattle.std.specs.Prelude.{◌≡◌, ◌⊎◌, cond, List, ◌++◌, ℕ, suc, ◌^◌, ltb, ◌<◌, get_or, take, drop}
 use Rattle.lists.specs.Told.{Told, refusal, says}
 use Rattle.choosers.specs.declared.choose_k.ConsistentChooseKHasher.{ConsistentChooseKHasher}
 use Rattle.choosers.specs.Choosers.{g, Moved, moved, grow}
@@ -22,10 +22,6 @@ grow_in s k l n =
     let m = grow s (take k l) n in
     moved (m.samples ++ drop (suc k) l) m.index
 
--- none of the first k entries is above the limit
-abbrev pub Within : List ℕ → ℕ → Type 0
-Within l k = (i : ℕ) → i < k → get_or l i 0 ≤ 2 ^ 62
-
 -- the first k entries are g(0, n), g(1, n), ..
 abbrev pub Owns : ℕ → List ℕ → ℕ → ℕ → Type 0
 Owns s l k n = (i : ℕ) → i < k → get_or l i 0 ≡ g s i n
@@ -33,7 +29,3 @@ Owns s l k n = (i : ℕ) → i < k → get_or l i 0 ≡ g s i n
 -- each of them is that, or is m
 abbrev pub OwnOr : ℕ → List ℕ → ℕ → ℕ → Type 0
 OwnOr s l k m = (i : ℕ) → i < k → (get_or l i 0 ≡ m) ⊎ (get_or l i 0 ≡ g s i m)
-
--- from place k on nothing changed
-abbrev pub SameFrom : ℕ → List ℕ → List ℕ → Type 0
-SameFrom k before now = drop k now ≡ drop k before

@@ -4,4 +4,5 @@ pub mod ChooserWalks
 pub mod Slots
 pub mod SlotCalls
 pub mod InnerChoosers
-pub mod InnerLookups
+pub mod InnerSlots
+pub mod InnerPlaces

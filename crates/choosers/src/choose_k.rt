@@ -7,6 +7,7 @@ ghost use Rattle.choosers.specs.ChooserCalls.{new_call, after_new, new_with_k_ca
 ghost use Rattle.choosers.specs.InnerChoosers.{tests, grown};
 
 use crate::samples;
+use crate::samples::Alone;
 use answers::Refusal;
 use hashes::ConsistentHasher;
 
@@ -45,7 +46,7 @@ impl ConsistentChooseKHasher {
         if (list.len() as u64) < k {
             return Err(Refusal::ShortMemory);
         }
-        samples::choose(state, n, k as usize, list);
+        samples::choose(state, n, &mut list[..k as usize]);
         Ok(ConsistentChooseKHasher { state, n, k })
     }
 
@@ -53,10 +54,7 @@ impl ConsistentChooseKHasher {
     pub fn fits(self, list: &[u64]) -> bool
         ensures { result ≡ fitting self list.now }
     {
-        if (list.len() as u64) < self.k {
-            return false;
-        }
-        samples::rising(list, self.k as usize, self.n)
+        self.k <= list.len() as u64 && samples::rising(&list[..self.k as usize], self.n)
     }
 
     // The tests that every call on a record begins with.
@@ -82,7 +80,7 @@ impl ConsistentChooseKHasher {
         if list.len() <= k {
             return Err(Refusal::ShortMemory);
         }
-        let i = samples::grow(self.state, self.n, k, list);
+        let i = samples::grow::<Alone>(self.state, self.n, &mut list[..=k]);
         self.k += 1;
         Ok(i)
     }
@@ -119,15 +117,13 @@ impl ConsistentChooseKHasher {
     {
         self.test(list)?;
         let k = self.k as usize;
-        if k == 0 || self.n <= self.k {
+        if k == 0 || self.n <= self.k || list[k - 1] < self.k {
             return Err(Refusal::CannotShrink);
         }
         let last = list[k - 1];
-        if last < self.k {
-            return Err(Refusal::CannotShrink);
-        }
+        let i = samples::lower::<Alone>(self.state, &mut list[..k], last);
         self.n = last;
-        Ok(samples::lower(self.state, list, k, last) as u64)
+        Ok(i as u64)
     }
 
     pub fn n(self) -> u64

@@ -1,7 +1,8 @@
 // The slot map of document 01: a slot count, and a byte a slot in a table that is lent to each call.
-ghost use Rattle.std.specs.Prelude.{◌≡◌, min, length};
+ghost use Rattle.std.specs.Prelude.{◌≡◌, min, length, take, is_ok, IfOk, IfErr};
 ghost use Rattle.choosers.specs.Slots.{state_of};
 ghost use Rattle.answers.specs.Refusals.{told, optional};
+ghost use Rattle.answers.specs.declared.Refusal.TheVariants.{Misfit};
 ghost use Rattle.choosers.specs.SlotCalls.{map_of, slot_limit, fitting, after, add_call, remove_call, len_call, is_empty_call, is_active_call, look_up, get_call, ScratchAfter};
 
 use crate::{lookups, tables};
@@ -25,26 +26,20 @@ pub fn location_state(key: u64, location: u32) -> u64
 pub fn first_active(count: u32, table: &[u8], state: u64, scratch: &mut [u64]) -> Option<u32>
     ensures { optional result ≡ look_up count table.now state (length scratch.old) }
 {
-    let n = count as u64;
-    let mut k: usize = 0;
-    while k < scratch.len() {
-        if n <= k as u64 {
-            return None;
-        }
-        let x = lookups::next_number(state, n, k, scratch);
-        if tables::is_one(table, x as usize) {
+    for k in 0..scratch.len().min(count as usize) {
+        let x = lookups::next_number(state, count as u64, &mut scratch[..=k]);
+        if table.get(x as usize) == Some(&1) {
             return Some(x as u32);
         }
-        k += 1;
     }
     None
 }
 
-// How many places of scratch a lookup over a table may need: refusal 4 of `get`.
+// How many places of scratch a lookup over a table may need: `get` refuses fewer.
 pub fn scratch_places(table: &[u8]) -> usize
     ensures { result ≡ min (length table.now) slot_limit }
 {
-    tables::places(table.len())
+    table.len().min(ConsistentNodeMap::SLOT_LIMIT as usize)
 }
 
 impl ConsistentNodeMap {
@@ -62,30 +57,32 @@ impl ConsistentNodeMap {
     pub fn fits(self, table: &[u8]) -> bool
         ensures { result ≡ fitting self table.now }
     {
-        let c = self.total;
-        if table.len() < (c as usize) {
-            return false;
+        let c = self.total as usize;
+        c <= table.len() && self.total <= Self::SLOT_LIMIT && tables::small(&table[..c])
+    }
+
+    // The bytes of the slots, where the count fits the table.
+    fn slots(self, table: &[u8]) -> Result<&[u8], Refusal>
+        ensures fits { is_ok result ≡ fitting self table.now }
+        ensures bytes { IfOk result (λ slots. slots.now ≡ take self.total table.now) }
+        ensures misfit { IfErr result (λ why. why ≡ Misfit) }
+    {
+        if !self.fits(table) {
+            return Err(Refusal::Misfit);
         }
-        if Self::SLOT_LIMIT < c {
-            return false;
-        }
-        tables::small(table, c as usize)
+        Ok(&table[..self.total as usize])
     }
 
     // The lowest deleted slot, else a new one: refused where there is neither.
     pub fn add(&mut self, table: &mut [u8]) -> Result<u32, Refusal>
         ensures { after (told result) self.new table.new ≡ add_call self.old table.old }
     {
-        if !self.fits(table) {
-            return Err(Refusal::Misfit);
-        }
-        let c = self.total;
-        let end = c as usize;
-        let x = tables::lowest(table, end);
-        if x < end {
+        if let Some(x) = tables::lowest(self.slots(table)?) {
             table[x] = 1;
             return Ok(x as u32);
         }
+        let c = self.total;
+        let end = c as usize;
         if end == table.len() || c == Self::SLOT_LIMIT {
             return Err(Refusal::NoSlotLeft);
         }
@@ -98,18 +95,13 @@ impl ConsistentNodeMap {
     pub fn remove(&mut self, table: &mut [u8], slot: u32) -> Result<(), Refusal>
         ensures { after (told result) self.new table.new ≡ remove_call self.old table.old slot }
     {
-        if !self.fits(table) {
-            return Err(Refusal::Misfit);
-        }
-        let c = self.total;
-        let x = slot as usize;
-        if c <= slot || table[x] != 1 {
+        if self.slots(table)?.get(slot as usize) != Some(&1) {
             return Err(Refusal::SlotNotActive);
         }
-        if slot + 1 == c {
+        if slot + 1 == self.total {
             self.total = slot;
         } else {
-            table[x] = 0;
+            table[slot as usize] = 0;
         }
         Ok(())
     }
@@ -118,33 +110,21 @@ impl ConsistentNodeMap {
     pub fn len(self, table: &[u8]) -> Result<u32, Refusal>
         ensures { told result ≡ len_call self table.now }
     {
-        if !self.fits(table) {
-            return Err(Refusal::Misfit);
-        }
-        Ok(tables::sum(table, self.total))
+        Ok(tables::sum(self.slots(table)?))
     }
 
     // Whether none is active.
     pub fn is_empty(self, table: &[u8]) -> Result<bool, Refusal>
         ensures { told result ≡ is_empty_call self table.now }
     {
-        if !self.fits(table) {
-            return Err(Refusal::Misfit);
-        }
-        Ok(!tables::any(table, self.total as usize))
+        Ok(!tables::any(self.slots(table)?))
     }
 
     // Whether a slot is active.
     pub fn is_active(self, table: &[u8], slot: u32) -> Result<bool, Refusal>
         ensures { told result ≡ is_active_call self table.now slot }
     {
-        if !self.fits(table) {
-            return Err(Refusal::Misfit);
-        }
-        if self.total <= slot {
-            return Ok(false);
-        }
-        Ok(tables::is_one(table, slot as usize))
+        Ok(self.slots(table)?.get(slot as usize) == Some(&1))
     }
 
     // How many slots there are, deleted ones too.
@@ -159,17 +139,13 @@ impl ConsistentNodeMap {
         ensures answer { told result ≡ get_call self table.now state (length scratch.old) }
         ensures scratch_after { ScratchAfter result scratch.old scratch.new }
     {
-        if !self.fits(table) {
-            return Err(Refusal::Misfit);
-        }
-        let c = self.total;
-        let bytes = table.len();
-        if scratch.len() < tables::places(bytes) {
+        let slots = self.slots(table)?;
+        if scratch.len() < scratch_places(table) {
             return Err(Refusal::ShortMemory);
         }
-        if !tables::any(table, c as usize) {
+        if !tables::any(slots) {
             return Err(Refusal::NoneActive);
         }
-        first_active(c, table, state, scratch).ok_or(Refusal::NoneActive)
+        first_active(self.total, table, state, scratch).ok_or(Refusal::NoneActive)
     }
 }

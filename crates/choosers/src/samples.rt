@@ -1,22 +1,18 @@
-// Samples in a lent list: whether they ascend, one more of them, their lowering, and all k at once.
-ghost use Rattle.std.specs.Prelude.{◌≡◌, ◌⊎◌, ◌^◌, ◌<◌, ◌≤◌, max, length};
-ghost use Rattle.lists.specs.Lists.{written};
-ghost use Rattle.choosers.specs.Choosers.{g, largest_g, S, moved, larger, lower_at};
+// Samples in the places of a lent list: whether they ascend, one more of them, their lowering, and all of them at once.
+ghost use Rattle.std.specs.Prelude.{◌≡◌, ℕ, ◌⊎◌, ◌+◌, ◌-◌, ◌^◌, ◌<◌, ◌≤◌, map, max, length};
+ghost use Rattle.choosers.specs.Choosers.{g, largest_g, S, moved, lower_at};
 ghost use Rattle.choosers.specs.ChooserCalls.{ascends};
-ghost use Rattle.choosers.specs.InnerChoosers.{grow_in, Within, OwnOr, Owns, SameFrom};
+ghost use Rattle.choosers.specs.InnerChoosers.{grow_in, OwnOr, Owns};
+ghost use Rattle.choosers.specs.InnerPlaces.{Kept, Rises, Under};
 
 use hashes::ConsistentHasher;
 
-// Whether the first k samples ascend strictly below n.
-pub(crate) fn rising(list: &[u64], k: usize, n: u64) -> bool
-    requires { k ≤ length list.now }
-    ensures { result ≡ ascends list.now k n }
+// Whether the samples ascend strictly below n.
+pub(crate) fn rising(samples: &[u64], n: u64) -> bool
+    ensures { result ≡ ascends samples.now (length samples.now) n }
 {
     let mut bound = n;
-    let mut i = k;
-    while 0 < i {
-        i -= 1;
-        let x = list[i];
+    for &x in samples.iter().rev() {
         if bound <= x {
             return false;
         }
@@ -25,7 +21,7 @@ pub(crate) fn rising(list: &[u64], k: usize, n: u64) -> bool
     true
 }
 
-// g(i, n).
+// g(i, n). A type for an n of at most 2^62 would be made and opened again at each call that asks for one, so it is a `requires`.
 pub(crate) fn get_sample(state: u64, i: u64, n: u64) -> u64
     requires { (i < n) × (n ≤ 2 ^ 62) }
     ensures { result ≡ g state i n }
@@ -34,120 +30,129 @@ pub(crate) fn get_sample(state: u64, i: u64, n: u64) -> u64
     i + hasher.prev(n - i).unwrap().unwrap()
 }
 
-// The larger of two numbers.
-fn larger_of(a: u64, b: u64) -> u64
-    ensures { result ≡ max a b }
-{
-    if a < b {
-        return b;
-    }
-    a
+// How a place holds a sample: alone, or with something of its sequence beside it.
+pub(crate) trait Places {
+    // the sample of a place
+    ghost sample: { ℕ → ℕ };
+
+    // what a place keeps of its sequence: of a state, an index and the place
+    ghost keeps: { ℕ → ℕ → ℕ → Type 0 };
+
+    // every sample is below it
+    ghost limit: { ℕ };
+
+    fn sample(place: u64) -> u64
+        ensures { result ≡ sample place };
+
+    // g(i, m), for an m that the sample of place i is not below.
+    fn own(state: u64, i: u64, place: u64, m: u64) -> u64
+        requires { (i < m) × (m ≤ sample place) × (m ≤ limit) × keeps state i place }
+        ensures { result ≡ g state i m };
+
+    // A place that holds the sample b, and keeps that its sequence's own value below b + 1 is v.
+    fn place(v: u64, b: u64) -> u64
+        requires { (v ≤ b) × (b < limit) }
+        ensures sample { sample result ≡ b }
+        ensures keeps { (s i : ℕ) → v ≡ g s i (b + 1) → keeps s i result };
 }
 
-// What the sample at index i becomes when it is lowered from m.
-fn larger_at(state: u64, list: &[u64], i: usize, m: u64) -> u64
-    requires { (i < length list.now) × (i < m) × (m ≤ 2 ^ 62) }
-    ensures { result ≡ larger state list.now i m }
-{
-    let x = get_sample(state, i as u64, m);
-    if i == 0 {
-        return x;
+// Samples alone, as a caller's list has them.
+pub(crate) struct Alone;
+
+impl Places for Alone {
+    ghost sample = { λ e. e };
+
+    ghost keeps = { λ s i e. Unit {0} };
+
+    ghost limit = { 2 ^ 62 };
+
+    fn sample(place: u64) -> u64 {
+        place
     }
-    larger_of(list[i - 1], x)
+
+    fn own(state: u64, i: u64, _place: u64, m: u64) -> u64 {
+        get_sample(state, i, m)
+    }
+
+    fn place(_v: u64, b: u64) -> u64 {
+        b
+    }
 }
 
-// Lowers the first k samples from m, and answers the index.
-pub(crate) fn lower(state: u64, list: &mut [u64], k: usize, from: u64) -> usize
-    requires { (k ≤ length list.old) × (k ≤ from) × (from ≤ 2 ^ 62) × Within list.old k }
-    ensures { moved list.new result ≡ lower_at state k list.old from }
+// Lowers the samples from m, and answers the index.
+pub(crate) fn lower<P: Places>(state: u64, list: &mut [u64], from: u64) -> usize
+    requires few { length list.old ≤ from }
+    requires small { from ≤ P.limit }
+    requires kept { Kept P.keeps state list.old (length list.old) }
+    requires rises { Rises (map P.sample list.old) (length list.old) }
+    requires under { Under (map P.sample list.old) (length list.old) from }
+    ensures lowered { moved (map P.sample list.new) result ≡ lower_at state (length list.old) (map P.sample list.old) from }
+    ensures kept { Kept P.keeps state list.new (length list.new) }
 {
     let mut m = from;
-    let mut i = k;
-    while 0 < i {
-        if list[i - 1] < m {
-            return i;
+    for i in (0..list.len()).rev() {
+        let place = list[i];
+        if P::sample(place) < m {
+            return i + 1;
         }
-        i -= 1;
-        m = larger_at(state, list, i, m);
-        list[i] = m;
+        let v = P::own(state, i as u64, place, m);
+        m = if i == 0 {
+            v
+        } else {
+            v.max(P::sample(list[i - 1]))
+        };
+        list[i] = P::place(v, m);
     }
     0
 }
 
-// One sample more after the first k, and its index.
-pub(crate) fn grow(state: u64, n: u64, k: usize, list: &mut [u64]) -> usize
-    requires { (k < length list.old) × (k < n) × (n ≤ 2 ^ 62) × Within list.old k }
-    ensures { moved list.new result ≡ grow_in state k list.old n }
+// One sample more, in the last place of the list, after those in the places before; and the index where it came in.
+pub(crate) fn grow<P: Places>(state: u64, n: u64, list: &mut [u64]) -> usize
+    requires some { 0 < length list.old }
+    requires few { length list.old ≤ n }
+    requires small { (n ≤ P.limit) × (n ≤ 2 ^ 62) }
+    requires kept { Kept P.keeps state list.old (length list.old - 1) }
+    requires rises { Rises (map P.sample list.old) (length list.old - 1) }
+    requires below { Under (map P.sample list.old) (length list.old) n }
+    ensures grown { moved (map P.sample list.new) result ≡ grow_in state (length list.old - 1) (map P.sample list.old) n }
+    ensures kept { Kept P.keeps state list.new (length list.new) }
 {
-    let x = get_sample(state, k as u64, n);
-    if k == 0 {
-        list[k] = x;
+    let k = list.len() - 1;
+    let v = get_sample(state, k as u64, n);
+    if k == 0 || P::sample(list[k - 1]) < v {
+        list[k] = P::place(v, v);
         return k;
     }
-    let last = list[k - 1];
-    if last < x {
-        list[k] = x;
-        return k;
-    }
-    let i = lower(state, list, k, last);
-    list[k] = last;
+    let last = P::sample(list[k - 1]);
+    let i = lower::<P>(state, &mut list[..k], last);
+    list[k] = P::place(v, last);
     i
 }
 
-// g(0, n), g(1, n), .. in the first k places, and the largest of them.
-fn first_samples(state: u64, n: u64, k: usize, list: &mut [u64]) -> u64
-    requires { (k ≤ length list.old) × (k ≤ n) × (n ≤ 2 ^ 62) }
-    ensures { (result ≡ largest_g state k n) × Owns state list.new k n × SameFrom k list.old list.new }
+// Each place i, which holds g(i, m) already or m, comes to hold g(i, m). The answer is the largest of them.
+fn refresh(state: u64, m: u64, list: &mut [u64]) -> u64
+    requires { (length list.old ≤ m) × (m ≤ 2 ^ 62) × OwnOr state list.old (length list.old) m }
+    ensures { (result ≡ largest_g state (length list.old) m) × Owns state list.new (length list.old) m }
 {
-    let mut high = 0;
-    let mut i = 0;
-    while i < k {
-        let x = get_sample(state, i as u64, n);
-        list[i] = x;
-        high = larger_of(high, x);
-        i += 1;
+    let mut high: u64 = 0;
+    for (i, x) in list.iter_mut().enumerate() {
+        if *x == m {
+            *x = get_sample(state, i as u64, m);
+        }
+        high = high.max(*x);
     }
     high
 }
 
-// g(i, m), where x is that or m itself.
-fn refreshed(state: u64, i: u64, x: u64, m: u64) -> u64
-    requires { (i < m) × (m ≤ 2 ^ 62) × ((x ≡ m) ⊎ (x ≡ g state i m)) }
-    ensures { result ≡ g state i m }
+// S(k, n) in the k places of a list, from the last down.
+pub(crate) fn choose(state: u64, n: u64, list: &mut [u64])
+    requires { (length list.old ≤ n) × (n ≤ 2 ^ 62) }
+    ensures { list.new ≡ S state (length list.old) n }
 {
-    if x == m {
-        return get_sample(state, i, m);
-    }
-    x
-}
-
-// g(0, m), g(1, m), .. in the first k places, of which each is that already or is m. The answer is the largest of them.
-fn next_samples(state: u64, m: u64, k: usize, list: &mut [u64]) -> u64
-    requires { (k ≤ length list.old) × (k ≤ m) × (m ≤ 2 ^ 62) × OwnOr state list.old k m }
-    ensures { (result ≡ largest_g state k m) × Owns state list.new k m × SameFrom k list.old list.new }
-{
-    let mut high = 0;
-    let mut i = 0;
-    while i < k {
-        let x = refreshed(state, i as u64, list[i], m);
-        list[i] = x;
-        high = larger_of(high, x);
-        i += 1;
-    }
-    high
-}
-
-// S(k, n) in the first k places, from the last down.
-pub(crate) fn choose(state: u64, n: u64, k: usize, list: &mut [u64])
-    requires { (k ≤ length list.old) × (k ≤ n) × (n ≤ 2 ^ 62) }
-    ensures { list.new ≡ written (S state k n) list.old }
-{
-    let mut high = first_samples(state, n, k, list);
-    let mut i = k;
-    while 0 < i {
-        i -= 1;
-        let m = high;
-        high = next_samples(state, m, i, list);
-        list[i] = m;
+    list.fill(n);
+    let mut last = n;
+    for i in (0..list.len()).rev() {
+        last = refresh(state, last, &mut list[..=i]);
+        list[i] = last;
     }
 }

@@ -3,6 +3,7 @@
 use mathlib.Core.Path.{◌≡◌, ap, sym, ◌∙◌}
 use mathlib.Core.Bool.{true, false}
 use mathlib.Core.List.{List}
+use Rattle.std.specs.Prelude.{Some}
 use mathlib.Core.Option.{none, some}
 use Prim.Native.Nat.{ℕ, ◌+◌, ◌-◌, ◌^◌, ◌<◌, ◌≤◌}
 use native.Mathlib.Omega.{arith}
@@ -42,6 +43,11 @@ module _ (r : ConsistentReservoir) (l : List ℕ) (fit : fitting r l ≡ true) (
   pub here_v : v ≤ 4 ^ 15
   here_v = rw is (low_le r.n (listed r l))
 
+  pub here_end : standing (below (v + 1)) r.k (take (r.used - 1) l) (length (take (r.used - 1) l)) ≡ standing (below (v + 1)) r.k l (r.used - 1)
+  here_end =
+      rw (length-take-le (r.used - 1) l (omega (arith, facts.shape.used_le)))
+      (standing_same (below (v + 1)) (below (v + 1)) r.k (take (r.used - 1) l) l (r.used - 1) (λ i h. ap (below (v + 1)) (get_or-take (r.used - 1) l i 0 h)))
+
   pub here_done : (u : ℕ) → u ≡ standing (below (v + 1)) r.k l (r.used - 1)
       → after (says (some (v, get_or l (r.used - 1) 0))) (reservoir_of (key_of r) r.k (v + 1) (j_of r) u) l ≡ exchange r (j_of r) (listed r l) l
   unfolding exchange exchange_by written last
@@ -56,15 +62,18 @@ module _ (r : ConsistentReservoir) (l : List ℕ) (fit : fitting r l ≡ true) (
 
 -- ---- an admit that grows
 module _ (r : ConsistentReservoir) (w : Wide) (l : List ℕ)
-    (p : (fitting r l ≡ true) × (r.used ≤ r.k) × (w.layer < 15) × (w ≡ wide_of (key_of r) r.k (j_of r))) where
+    (p : (fitting r l ≡ true) × (r.used ≤ r.k) × (Some w ≡ wide_of (key_of r) r.k (j_of r))) where
   fact : Fits r l
   fact = fits_parts r l p.0
 
   goes : Found (key_of r) r.k (j_of r) w
-  goes = found (key_of r) r.k (j_of r) w p.3 p.2
+  goes = found (key_of r) r.k (j_of r) w fact.shape.j_low p.2
+
+  pub above_low : w.layer < 15
+  above_low = goes.top
 
   kq : r.k ≤ 4 ^ w.layer
-  kq = k_quarter r w.layer l fact p.1 p.2 goes.high
+  kq = k_quarter r w.layer l fact p.1 above_low goes.high
 
   inputs_is : w.inputs ≡ length (reached (key_of r) w.layer r.k)
   inputs_is = goes.inputs ∙ ap length (zeros_at (key_of r) w.layer r.k)
@@ -78,11 +87,14 @@ module _ (r : ConsistentReservoir) (w : Wide) (l : List ℕ)
   pub above_fit : w.inputs - 1 ≤ size w.layer
   above_fit = omega (arith, inputs_is, reached_fits (key_of r) w.layer r.k kq)
 
+  pub above_more : r.k < w.inputs
+  above_more = omega (arith, goes.more, goes.inputs)
+
   pub above_v : w.low ≤ 4 ^ 15
   above_v = rw low_is (low_le (4 ^ w.layer) (reached (key_of r) w.layer r.k))
 
   v_from : 4 ^ w.layer ≤ w.low
-  v_from = rw low_is (low_from (4 ^ w.layer) (pow_up w.layer 15 (omega (arith, p.2))) (reached (key_of r) w.layer r.k))
+  v_from = rw low_is (low_from (4 ^ w.layer) (pow_up w.layer 15 (omega (arith, above_low))) (reached (key_of r) w.layer r.k))
 
   pub above_k : (0 < r.k) × (r.k ≤ length l)
   above_k = (fact.shape.some_k, omega (arith, used_some r l fact, p.1, fact.shape.used_le))
@@ -104,11 +116,11 @@ module _ (r : ConsistentReservoir) (w : Wide) (l : List ℕ)
     above_is =
         let more : r.k < length (reached (key_of r) w.layer r.k) = omega (arith, goes.more, ap length (zeros_at (key_of r) w.layer r.k)) in
         let v : incoming r.n (grown (key_of r) w.layer r.k (listed r l)) ≡ w.low =
-        grow_low r w.layer l fact p.1 p.2 goes.high more ∙ sym low_is in
+        grow_low r w.layer l fact p.1 above_low goes.high more ∙ sym low_is in
         let m : length (grown (key_of r) w.layer r.k (listed r l)) ≡ w.inputs =
-        grow_length r w.layer l fact p.1 p.2 goes.high ∙ sym inputs_is in
+        grow_length r w.layer l fact p.1 above_low goes.high ∙ sym inputs_is in
         let t : standing (below (w.low + 1)) r.k (grown (key_of r) w.layer r.k (listed r l)) (w.inputs - 1) ≡ e =
-        rw (is, inputs_is) (grow_standing r w.layer l fact p.1 p.2 goes.high w.low v_from) in
+        rw (is, inputs_is) (grow_standing r w.layer l fact p.1 above_low goes.high w.low v_from) in
         rw (v, m, t)
 
     pub above_refused : length l < e → refused 4 r l ≡ exchange r w.layer (grown (key_of r) w.layer r.k (listed r l)) l
@@ -120,8 +132,8 @@ module _ (r : ConsistentReservoir) (w : Wide) (l : List ℕ)
     unfolding exchange_by
     above_done h =
         let b : written (take e (grown (key_of r) w.layer r.k (listed r l))) l ≡ laid_of (key_of r) w.layer e l =
-        grow_laid r w.layer l fact p.1 p.2 goes.high e (omega (arith, end_le, inputs_is)) (omega (arith, end_rank)) in
-        sym (above_is ∙ rw (le-ltb (length l) e h, grow_last r w.layer l fact p.1 p.2 goes.high, b))
+        grow_laid r w.layer l fact p.1 above_low goes.high e (omega (arith, end_le, inputs_is)) (omega (arith, end_rank)) in
+        sym (above_is ∙ rw (le-ltb (length l) e h, grow_last r w.layer l fact p.1 above_low goes.high, b))
 
 -- ---- the step to the next layer
 module _ (r : ConsistentReservoir) (l : List ℕ) (p : (fitting r l ≡ true) × (r.used ≤ r.k) × (j_of r < 14))
@@ -176,10 +188,10 @@ pub admit_none : (r : ConsistentReservoir) (l : List ℕ) → fitting r l ≡ tr
 unfolding admit_call
 admit_none r l e h f = rw (e, le-ltb r.k r.used h, f)
 
-pub admit_grown : (r : ConsistentReservoir) (l : List ℕ) (w : Wide) → fitting r l ≡ true → r.used ≤ r.k → w ≡ wide_of (key_of r) r.k (j_of r) → w.layer < 15
+pub admit_grown : (r : ConsistentReservoir) (l : List ℕ) (w : Wide) → fitting r l ≡ true → r.used ≤ r.k → Some w ≡ wide_of (key_of r) r.k (j_of r)
     → exchange r w.layer (grown (key_of r) w.layer r.k (listed r l)) l ≡ admit_call r l
 unfolding admit_call
-admit_grown r l w e h f b = rw (e, le-ltb r.k r.used h, (found (key_of r) r.k (j_of r) w f b).is)
+admit_grown r l w e h f = rw (e, le-ltb r.k r.used h, (found (key_of r) r.k (j_of r) w (fits_parts r l e).shape.j_low f).is)
 
 pub grow_unfit : (r : ConsistentReservoir) (l : List ℕ) → fitting r l ≡ false → refused 12 r l ≡ grow_layer_call r l
 unfolding grow_layer_call

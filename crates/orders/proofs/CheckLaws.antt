@@ -2,38 +2,39 @@
 -- Assumes nothing.
 use mathlib.Core.Path.{◌≡◌, refl, sym, ap, ◌∙◌}
 use mathlib.Core.Bool.{Bool, true, false, ◌&&◌}
+use Rattle.std.specs.Prelude.{None, Some}
+use Rattle.std.specs.Option.{is_some}
 use mathlib.Core.List.{List, [], ◌∷◌}
-use Prim.Native.Nat.{ℕ, suc, ◌+◌, ◌-◌, ◌*◌, ◌/◌, ◌^◌, ◌<◌, ◌≤◌, zero-le}
+use Prim.Native.Nat.{ℕ, suc, ◌+◌, ◌*◌, ◌/◌, ◌^◌, ◌<◌, ◌≤◌, zero-le}
 use native.Mathlib.Nat.{zero-add, div-add-mod'}
 use native.Mathlib.Omega.{arith}
 use lib.Arith.{bin_ind}
 use lib.Pow.{pow_pos}
 use lib.Bits.{bit_or, or_step, or_comm, or_lt}
 use lib.Dec.{ltb, leb, eqb}
-use lib.ListN.{length, take, get_or}
-use lib.Seq.{get_or-take, length-take-le}
-use borrow.Author.Tests.{lt-ltb, le-ltb, ltb-true, leb-true, eqb-true}
+use lib.ListN.{length}
+use lib.Seq.{length-take-le}
+use borrow.Author.Tests.{lt-ltb, le-ltb, le-leb, ltb-true, leb-true, eqb-true}
 use Rattle.lists.specs.Lists.{keep, below, every, last}
 use Rattle.lists.proofs.Numbers.{four_pow_double}
-use Rattle.lists.proofs.Tests.{below_yes, below_no, by_below}
+use Rattle.lists.proofs.Tests.{below_yes, below_no, by_test, by_below}
 use Rattle.lists.proofs.Keeping.{All, all_of_length, keep_length, both}
 use Rattle.layers.specs.Layer.{size}
 use Rattle.orders.specs.declared.consistent_reservoir.ConsistentReservoir.{ConsistentReservoir}
 use Rattle.orders.specs.declared.checks.Survey.{Survey}
-use Rattle.orders.specs.declared.checks.Check.{Check}
 use Rattle.orders.specs.ReservoirCalls.{j_of, listed, sample, fitting}
-use Rattle.orders.specs.InnerPasses.{or_all, low_of, survey_of, shape_of, close_of, check_of}
-use Rattle.orders.proofs.LogLaws.{size_suc, size_limit}
+use Rattle.orders.specs.InnerPasses.{or_all, low_of, survey_of, check_of}
+use Rattle.orders.proofs.LogLaws.{size_suc}
 
--- ---- the last listed number
+-- ---- the test in two parts: what the record's numbers and the list's length decide, and what the listed numbers do
 
-pub last_none : (l : List ℕ) (u : ℕ) → u ≡ 0 → 0 ≡ last (take u l)
-unfolding last
-last_none l u e = rw e
+-- what of refusal 12 the record's numbers and the list's length decide
+unfoldable pub shape_of : ConsistentReservoir → ℕ → Bool
+shape_of r len = leb (j_of r) 14 && leb 1 r.k && leb r.k r.n && leb r.n (size (j_of r)) && leb r.used len
 
-pub last_some : (l : List ℕ) (u : ℕ) → (u ≡ 0 → ⊥) → u ≤ length l → get_or l (u - 1) 0 ≡ last (take u l)
-unfolding last
-last_some l u p h = rw (length-take-le u l h) (sym (get_or-take u l (u - 1) 0 (omega arith)))
+-- and what the pass found, and the last listed number
+unfoldable pub close_of : ConsistentReservoir → Survey → ℕ → Bool
+close_of r s x = eqb s.count r.k && ltb s.high (size (j_of r)) && ltb x r.n
 
 -- ---- a fitting record, in facts
 
@@ -59,8 +60,10 @@ shape_parts r len e =
       used_le = leb-true r.used len a.1;
     }
 
-pub shape_small : (r : ConsistentReservoir) (len : ℕ) → Shape r len → r.n ≤ 4 ^ 15
-shape_small r len s = omega (arith, s.n_le, size_limit (j_of r) (omega (arith, s.j_low)))
+of_shape : (r : ConsistentReservoir) (len : ℕ) → Shape r len → shape_of r len ≡ true
+unfolding shape_of
+of_shape r len s =
+    simp (le-leb (j_of r) 14 (omega (arith, s.j_low)), le-leb 1 r.k s.some_k, le-leb r.k r.n s.k_le, le-leb r.n (size (j_of r)) (omega (arith, s.n_le, size_suc (j_of r))), le-leb r.used len s.used_le)
 
 pub record Fits (r : ConsistentReservoir) (l : List ℕ) : Type 0 where
   pub shape : Shape r (length l)
@@ -126,37 +129,51 @@ or_all_test m h (x ∷ xs) p =
 or_size : (j : ℕ) (xs : List ℕ) → ltb (or_all 0 xs) (size j) ≡ every (below (size j)) xs
 or_size j xs = rw (four_pow_double (j + 1)) (or_all_test (2 * (j + 1)) 0 xs (pow_pos (2 * (j + 1))))
 
+-- the pass counts no more than it sees
+pub count_le : (n : ℕ) (xs : List ℕ) (s : Survey) → s ≡ survey_of n xs → s.count ≤ length xs
+unfolding survey_of
+count_le n xs s e = omega (arith, ap (λ (t : Survey). t.count) e, keep_length (below n) xs)
+
 -- ---- the answers of the check
 
-check_no : (r : ConsistentReservoir) (l : List ℕ) → fitting r l ≡ false → record { fits = false; low = 0 } ≡ check_of r l
+close_is : (r : ConsistentReservoir) (l : List ℕ) (s : Survey) → s ≡ survey_of r.n (listed r l) → close_of r s (last (listed r l)) ≡ rest r l
+unfolding close_of rest survey_of sample
+close_is r l s e =
+    let a : 0 + length (keep (below r.n) (listed r l)) ≡ length (keep (below r.n) (listed r l)) = zero-add (length (keep (below r.n) (listed r l))) in
+    rw (e, a, or_size (j_of r) (listed r l))
+
+check_no : (r : ConsistentReservoir) (l : List ℕ) → fitting r l ≡ false → None ≡ check_of r l
 unfolding check_of
 check_no r l e = rw e
 
-close_is : (r : ConsistentReservoir) (l : List ℕ) (s : Survey) (x : ℕ) → s ≡ survey_of r.n (listed r l) → x ≡ last (listed r l) → close_of r s x ≡ rest r l
-unfolding close_of rest survey_of sample
-close_is r l s x e f =
-    let a : 0 + length (keep (below r.n) (listed r l)) ≡ length (keep (below r.n) (listed r l)) = zero-add (length (keep (below r.n) (listed r l))) in
-    rw (e, f, a, or_size (j_of r) (listed r l))
-
-pub no_shape : (r : ConsistentReservoir) (l : List ℕ) → shape_of r (length l) ≡ false → record { fits = false; low = 0 } ≡ check_of r l
+pub no_shape : (r : ConsistentReservoir) (l : List ℕ) → shape_of r (length l) ≡ false → None ≡ check_of r l
 no_shape r l e = check_no r l (cut r l ∙ rw e)
 
-pub no_close : (r : ConsistentReservoir) (l : List ℕ) (s : Survey) (x : ℕ) → shape_of r (length l) ≡ true → s ≡ survey_of r.n (listed r l) → x ≡ last (listed r l)
-    → close_of r s x ≡ false → record { fits = false; low = 0 } ≡ check_of r l
-no_close r l s x h e f g = check_no r l (cut r l ∙ rw h (sym (close_is r l s x e f) ∙ g))
+module _ (r : ConsistentReservoir) (l : List ℕ) (shape : Shape r (length l)) (s : Survey) (is : s ≡ survey_of r.n (listed r l)) where
+  pub no_close : close_of r s (last (listed r l)) ≡ false → None ≡ check_of r l
+  no_close e = check_no r l (cut r l ∙ rw (of_shape r (length l) shape) (sym (close_is r l s is) ∙ e))
 
-pub yes_close : (r : ConsistentReservoir) (l : List ℕ) (s : Survey) (x : ℕ) → shape_of r (length l) ≡ true → s ≡ survey_of r.n (listed r l) → x ≡ last (listed r l)
-    → close_of r s x ≡ true → record { fits = true; low = s.low } ≡ check_of r l
-unfolding check_of low_of survey_of
-yes_close r l s x h e f g =
-    let q : fitting r l ≡ true = cut r l ∙ rw h (sym (close_is r l s x e f) ∙ g) in
-    rw (q, e)
+  pub yes_close : close_of r s (last (listed r l)) ≡ true → Some s.low ≡ check_of r l
+  unfolding check_of low_of survey_of
+  yes_close e =
+      let q : fitting r l ≡ true = cut r l ∙ rw (of_shape r (length l) shape) (sym (close_is r l s is) ∙ e) in
+      rw (q, is)
 
 -- what a caller of `checked` learns
-pub fits_is : (r : ConsistentReservoir) (l : List ℕ) (c : Check) → c ≡ check_of r l → c.fits ≡ fitting r l
+pub checked_no : (r : ConsistentReservoir) (l : List ℕ) → None ≡ check_of r l → fitting r l ≡ false
 unfolding check_of
-fits_is r l c e = ap (λ (d : Check). d.fits) e
+checked_no r l e =
+    by_test (fitting r l)
+    (λ y. let z : None ≡ Some (low_of r.n (listed r l)) = rw y at e in absurd (cc))
+    (λ n. n)
 
-pub low_is : (r : ConsistentReservoir) (l : List ℕ) (c : Check) → c ≡ check_of r l → fitting r l ≡ true → c.low ≡ low_of r.n (listed r l)
+pub checked_yes : (r : ConsistentReservoir) (l : List ℕ) (v : ℕ) → Some v ≡ check_of r l → (fitting r l ≡ true) × (v ≡ low_of r.n (listed r l))
 unfolding check_of
-low_is r l c e s = ap (λ (d : Check). d.low) e ∙ rw s
+checked_yes r l v e =
+    by_test (fitting r l)
+    (λ y. let z : Some v ≡ Some (low_of r.n (listed r l)) = rw y at e in (y, cc))
+    (λ n. let z : Some v ≡ None = rw n at e in absurd (cc))
+
+pub checked_some : (r : ConsistentReservoir) (l : List ℕ) → is_some (check_of r l) ≡ fitting r l
+unfolding check_of
+checked_some r l = by_test (fitting r l) (λ y. rw y) (λ n. rw n)

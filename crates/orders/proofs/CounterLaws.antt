@@ -22,26 +22,30 @@ use Rattle.orders.proofs.WalkLaws.{counted_set}
 
 -- ---- the test
 
--- the test of c counters from that of layer i up
-abbrev pub fitting : List ℕ → ℕ → ℕ → Bool
-fitting cs i c = every (λ j. leb (counter cs j) (size j)) (from i c)
+-- b and c tests from that of i up, as `b & p(i) & p(i+1) & ..` goes
+abbrev also : (ℕ → Bool) → Bool → ℕ → ℕ → Bool
+also p b i zero = b
+also p b i (suc c) = also p (b && p i) (suc i) c
 
--- made from the last back to the first
-pub fitting_last : (cs : List ℕ) → leb (counter cs 14) (size 14) ≡ fitting cs 14 1
+and_assoc : (a b c : Bool) → ((a && b) && c) ≡ (a && (b && c))
+and_assoc true b c = refl
+and_assoc false b c = refl
+
+and_true : (b : Bool) → b ≡ (b && true)
+and_true true = refl
+and_true false = refl
+
+also_every : (p : ℕ → Bool) (b : Bool) (i c : ℕ) → also p b i c ≡ (b && every p (from i c))
 unfolding every
-fitting_last cs = and_true (leb (counter cs 14) (size 14))
-  where
-    and_true : (b : Bool) → b ≡ (b && true)
-    and_true true = refl
-    and_true false = refl
+also_every p b i zero = and_true b
+also_every p b i (suc c) = also_every p (b && p i) (suc i) c ∙ and_assoc b (p i) (every p (from (suc i) c))
 
-pub fitting_more : (cs : List ℕ) (i c : ℕ) (b d : Bool) → b ≡ (leb (counter cs i) (size i) && d) → d ≡ fitting cs (suc i) c → b ≡ fitting cs i (suc c)
-unfolding every
-fitting_more cs i c b d e f = e ∙ ap (λ (x : Bool). leb (counter cs i) (size i) && x) f
+abbrev fitting : List ℕ → ℕ → Bool
+fitting cs j = leb (counter cs j) (size j)
 
-pub fitting_all : (cs : List ℕ) → fitting cs 0 15 ≡ within cs
-unfolding within
-fitting_all cs = refl
+pub fitting_all : (cs : List ℕ) → also (fitting cs) (fitting cs 0) 1 14 ≡ within cs
+unfolding within every
+fitting_all cs = also_every (fitting cs) (fitting cs 0) 1 14
 
 -- no counter is above its size
 pub within_at : (cs : List ℕ) → within cs ≡ true → (i : ℕ) → i < 15 → counter cs i ≤ size i

@@ -3,21 +3,21 @@
 -- Assumes nothing.
 use mathlib.Core.Path.{◌≡◌, refl, ap, sym, ◌∙◌}
 use mathlib.Core.Bool.{cond}
-use mathlib.Core.List.{List, [], ◌∷◌, ◌++◌}
+use mathlib.Core.List.{List, [], ◌∷◌, ◌++◌, append-nil}
 use Prim.Native.Nat.{ℕ, zero, suc, ◌+◌, ◌-◌, ◌^◌, ◌<◌, ◌≤◌}
 use native.Mathlib.Numerals.{add-one}
 use native.Mathlib.Nat.{add-zero, zero-add}
 use native.Mathlib.Omega.{arith}
 use lib.Dec.{ltb}
-use lib.ListN.{length, take, drop, get_or, set, length-append, length-drop, get_or-append, take-append-drop}
-use lib.Seq.{drop_at}
+use lib.ListN.{length, take, drop, get_or, set, length-append, length-drop, get_or-append, take-append-drop, drop_of_length-le}
+use lib.Seq.{drop_at, length-take-le, take-take}
 use borrow.Author.Tests.{lt-ltb, le-ltb}
 use Rattle.lists.specs.Lists.{below, count_below, replace}
 use Rattle.lists.proofs.Tests.{below_yes, below_no, by_below}
 use Rattle.lists.proofs.Permutations.{from_length}
 use Rattle.lists.proofs.Prefixes.{keep_snoc_yes, keep_snoc_no}
-use Rattle.lists.proofs.Replacing.{replace_length, replace_at}
-use Rattle.lists.proofs.Writing.{part, part_set, part_old, length_part}
+use Rattle.lists.proofs.Replacing.{replace_length, replace_at, replace_same}
+use Rattle.lists.proofs.Writing.{part, part_set, part_old}
 use Rattle.layers.specs.Layer.{layer}
 use Rattle.orders.specs.InnerPasses.{outs, rank_of, laid_of}
 use Rattle.orders.proofs.ScanLaws.{outs_at}
@@ -90,9 +90,6 @@ module _ (key i : ℕ) (old : List ℕ) (e : ℕ) (fits : e ≤ length old) (p t
   back : p - 1 + 1 ≡ p
   back = omega arith
 
-  pub turn_length : length list ≡ length old
-  turn_length = ap length is ∙ length_part old (laid_of key i e old) (length_laid key i old e fits) p (omega arith)
-
   pub yes_rank : layer i key (p - 1) < 4 ^ i → t ≡ rank_of key i (p - 1) + 1
   yes_rank y = ranked ∙ ap (rank_of key i) (sym back) ∙ rank_yes key i (p - 1) y
 
@@ -121,3 +118,13 @@ cover_start key i old e h = sym (rw (drop_laid key i old e h) (take-append-drop 
 
 pub part_zero : (old new : List ℕ) (p : ℕ) → p ≤ 0 → part old new p ≡ new
 part_zero old new p h = let z : p ≡ 0 = omega arith in rw z
+
+-- laid over the first e alone, it is laid over the list
+pub laid_over : (key i e : ℕ) (l : List ℕ) → e ≤ length l → laid_of key i (length (take e l)) (take e l) ++ drop e l ≡ laid_of key i e l
+unfolding laid_of rank_of
+laid_over key i e l h =
+    let n : length (take e l) ≡ e = length-take-le e l h in
+    let none : drop e (take e l) ≡ [] = drop_of_length-le (take e l) (omega (arith, n)) in
+    let same : replace (below (4 ^ i)) (outs key i 0 e) (take e l) ≡ replace (below (4 ^ i)) (outs key i 0 e) l =
+    replace_same (below (4 ^ i)) e (outs key i 0 e) (take e l) l (rank_le key i e) (take-take e e l (omega arith)) in
+    rw (n, none, append-nil, same)

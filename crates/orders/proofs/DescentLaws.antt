@@ -4,6 +4,7 @@
 use mathlib.Core.Path.{◌≡◌, refl, sym, ap, ◌∙◌, subst}
 use mathlib.Core.Bool.{Bool, true, false}
 use mathlib.Core.List.{List}
+use Rattle.std.specs.Prelude.{None, Some}
 use Prim.Native.Nat.{ℕ, zero, suc, ◌+◌, ◌-◌, ◌*◌, ◌%◌, ◌^◌, ◌≤◌, ◌<◌}
 use native.Mathlib.Numerals.{add-one}
 use native.Mathlib.Omega.{arith}
@@ -89,19 +90,19 @@ module _ (key : ℕ) where
   -- ---- the next number of layer j, clause by clause
 
   -- its counter is at its size
-  spent_is : (j : ℕ) (cs : List ℕ) → size j ≤ counter cs j → stop_of key j cs ≡ 4 ^ 15
+  spent_is : (j : ℕ) (cs : List ℕ) → size j ≤ counter cs j → stop_of key j cs ≡ None
   unfolding stop_of
   spent_is zero cs h = rw (le-leb (size 0) (counter cs 0) h) refl
   spent_is (suc j) cs h = rw (le-leb (size (suc j)) (counter cs (suc j)) h) refl
 
   -- the output is not 00
-  here_is : (j : ℕ) (cs : List ℕ) → counter cs j < size j → 4 ^ j ≤ layer j key (counter cs j) → stop_of key j cs ≡ layer j key (counter cs j)
+  here_is : (j : ℕ) (cs : List ℕ) → counter cs j < size j → 4 ^ j ≤ layer j key (counter cs j) → stop_of key j cs ≡ Some (layer j key (counter cs j))
   unfolding stop_of output
   here_is zero cs h t = rw (lt-leb (size 0) (counter cs 0) h, top_no 0 (layer 0 key (counter cs 0)) t) refl
   here_is (suc j) cs h t = rw (lt-leb (size (suc j)) (counter cs (suc j)) h, top_no (suc j) (layer (suc j) key (counter cs (suc j))) t) refl
 
   -- it is 00 in layer 0
-  zero_is : (j : ℕ) (cs : List ℕ) → j ≡ 0 → counter cs j < size j → layer j key (counter cs j) < 4 ^ j → stop_of key j cs ≡ 0
+  zero_is : (j : ℕ) (cs : List ℕ) → j ≡ 0 → counter cs j < size j → layer j key (counter cs j) < 4 ^ j → stop_of key j cs ≡ Some 0
   unfolding stop_of output
   zero_is zero cs e h t = rw (lt-leb (size 0) (counter cs 0) h, top_yes 0 (layer 0 key (counter cs 0)) t) refl
   zero_is (suc j) cs e h t = absurd (omega arith)
@@ -116,17 +117,17 @@ module _ (key : ℕ) where
 
   -- the same with the code's variables: x the counter, s the layer's size, y its output, q what is below it 00
   module _ (j x s : ℕ) (cs : List ℕ) (counter-is : x ≡ counter cs j) (size_is : s ≡ size j) where
-    pub stop_spent : s ≤ x → 4 ^ 15 ≡ stop_of key j cs
+    pub stop_spent : s ≤ x → None ≡ stop_of key j cs
     stop_spent h = sym (spent_is j cs (omega arith))
 
     module _ (y q : ℕ) (room : x < s) (output-is : y ≡ layer j key x) (quarter-is : q ≡ 4 ^ j) where
       at_counter : layer j key (counter cs j) ≡ y
       at_counter = ap (layer j key) (sym counter-is) ∙ sym output-is
 
-      pub stop_here : q ≤ y → y ≡ stop_of key j cs
-      stop_here h = sym (here_is j cs (omega arith) (omega (arith, at_counter)) ∙ at_counter)
+      pub stop_here : q ≤ y → Some y ≡ stop_of key j cs
+      stop_here h = sym (here_is j cs (omega arith) (omega (arith, at_counter)) ∙ ap Some at_counter)
 
-      pub stop_zero : y < q → j ≡ 0 → 0 ≡ stop_of key j cs
+      pub stop_zero : y < q → j ≡ 0 → Some 0 ≡ stop_of key j cs
       stop_zero h e = sym (zero_is j cs e (omega arith) (omega (arith, at_counter)))
 
       pub stop_down : y < q → (j ≡ 0 → ⊥) → stop_of key (j - 1) cs ≡ stop_of key j cs

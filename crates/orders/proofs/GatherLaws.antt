@@ -6,7 +6,7 @@ use Prim.Native.Nat.{ℕ, suc, ◌+◌, ◌<◌, ◌≤◌}
 use native.Mathlib.Numerals.{add-one}
 use native.Mathlib.Omega.{arith}
 use lib.ListN.{length, take, drop, get_or, set, length-append, length-drop}
-use lib.Seq.{take-suc, drop-cons, set_at, append_snoc, take-take}
+use lib.Seq.{take-suc, take-length, drop-cons, set_at, append_snoc}
 use Rattle.lists.specs.Lists.{keep, below, count_below, written}
 use Rattle.lists.proofs.Tests.{below_yes, below_no}
 use Rattle.lists.proofs.Members.{keep_append}
@@ -16,8 +16,7 @@ use Rattle.lists.proofs.Prefixes.{keep_take_le}
 abbrev pub gathered : ℕ → List ℕ → List ℕ → ℕ → ℕ → List ℕ
 gathered n list old i t = keep (below n) (take i list) ++ drop t old
 
-module _ (n used : ℕ) (list old : List ℕ) (fits : used ≤ length list) (room : count_below n (take used list) ≤ length old) (i t : ℕ) (out : List ℕ)
-    (lt : i < used) (is : t ≡ count_below n (take i list)) (same : out ≡ gathered n list old i t) where
+module _ (n : ℕ) (list old : List ℕ) (room : count_below n list ≤ length old) (i t : ℕ) (out : List ℕ) (lt : i < length list) (is : t ≡ count_below n (take i list)) (same : out ≡ gathered n list old i t) where
   more : take (i + 1) list ≡ take i list ++ (get_or list i 0 ∷ [])
   more = rw (add-one i) (take-suc list i 0 (omega arith))
 
@@ -35,9 +34,7 @@ module _ (n used : ℕ) (list old : List ℕ) (fits : used ≤ length list) (roo
 
   pub yes_room : get_or list i 0 < n → t < length old
   yes_room y =
-      let c : take (i + 1) (take used list) ≡ take (i + 1) list = take-take (i + 1) used list (omega arith) in
-      let b : count_below n (take (i + 1) (take used list)) ≤ count_below n (take used list) = keep_take_le (below n) (i + 1) (take used list) in
-      let d : count_below n (take (i + 1) list) ≤ count_below n (take used list) = rw c at b in
+      let d : count_below n (take (i + 1) list) ≤ count_below n list = keep_take_le (below n) (i + 1) list in
       omega (arith, yes_count y)
 
   pub yes_list : get_or list i 0 < n → set out t (get_or list i 0) ≡ gathered n list old (i + 1) (t + 1)
@@ -57,13 +54,11 @@ module _ (n used : ℕ) (list old : List ℕ) (fits : used ≤ length list) (roo
 pub gathered_length : (n : ℕ) (list old : List ℕ) (i t : ℕ) → t ≡ count_below n (take i list) → t ≤ length old → length (gathered n list old i t) ≡ length old
 gathered_length n list old i t e h = simp (length-append, length-drop) (omega arith)
 
-pub count_fits : (n used : ℕ) (list old : List ℕ) (i t : ℕ) → count_below n (take used list) ≤ length old → i ≤ used → t ≡ count_below n (take i list) → t ≤ length old
-count_fits n used list old i t room h e =
-    let c : take i (take used list) ≡ take i list = take-take i used list h in
-    let b : count_below n (take i (take used list)) ≤ count_below n (take used list) = keep_take_le (below n) i (take used list) in
-    let d : count_below n (take i list) ≤ count_below n (take used list) = rw c at b in
+pub count_fits : (n : ℕ) (list old : List ℕ) (i t : ℕ) → count_below n list ≤ length old → t ≡ count_below n (take i list) → t ≤ length old
+count_fits n list old i t room e =
+    let d : count_below n (take i list) ≤ count_below n list = keep_take_le (below n) i list in
     omega arith
 
-pub gathered_done : (n used : ℕ) (list old : List ℕ) (i t : ℕ) → used ≤ i → i ≤ used → t ≡ count_below n (take i list) → gathered n list old i t ≡ written (keep (below n) (take used list)) old
+pub gathered_done : (n : ℕ) (list old : List ℕ) (i t : ℕ) → i ≡ length list → t ≡ count_below n (take i list) → gathered n list old i t ≡ written (keep (below n) list) old
 unfolding written
-gathered_done n used list old i t a b e = let d : i ≡ used = omega arith in rw (e, d)
+gathered_done n list old i t d e = rw (e, d, take-length list)

@@ -4,6 +4,7 @@ use mathlib.Core.Path.{◌≡◌, refl, sym, ap, ◌∙◌}
 use mathlib.Core.Bool.{true, false}
 use mathlib.Core.List.{List}
 use mathlib.Core.Option.{none, some}
+use Rattle.std.specs.Prelude.{None, Some}
 use Prim.Native.Nat.{ℕ, zero, suc, ◌+◌, ◌-◌, ◌^◌, ◌≤◌, ◌<◌}
 use native.Mathlib.Numerals.{add-one}
 use native.Mathlib.Omega.{arith}
@@ -27,7 +28,7 @@ use Rattle.orders.proofs.DescentLaws.{top_yes, top_no, number_lt, meets_set, Tel
 -- ---- the walk's loop
 
 module _ (key j n : ℕ) where
-  pub seek_hit : (x y N : ℕ) → x < N → y ≡ layer j key x → y < n → seek key j n x (N - x) ≡ walked (x + 1) y
+  pub seek_hit : (x y N : ℕ) → x < N → y ≡ layer j key x → y < n → seek key j n x (N - x) ≡ walked (x + 1) (Some y)
   seek_hit x y N h e l =
       let s : N - x ≡ suc (N - (x + 1)) = omega arith in
       let b : below n (layer j key x) ≡ true = below_yes (layer j key x) n (omega arith) in
@@ -39,7 +40,7 @@ module _ (key j n : ℕ) where
       let b : below n (layer j key x) ≡ false = below_no (layer j key x) n (omega arith) in
       rw (s, b, add-one x) refl
 
-  pub seek_none : (x N : ℕ) → N ≤ x → seek key j n x (N - x) ≡ walked x (4 ^ 15)
+  pub seek_none : (x N : ℕ) → N ≤ x → seek key j n x (N - x) ≡ walked x None
   seek_none x N h = let s : N - x ≡ 0 = omega arith in rw s refl
 
 -- ---- one number of layer j, whose counter is set to x
@@ -98,32 +99,32 @@ module _ (o : ConsistentPermutation) where
 
   -- ---- the three ends of the walk
 
-  pub top_none : (j : ℕ) (w : Walked) → 4 ^ 15 ≤ w.number → top_step o j w ≡ step (says none) (order_of (key_of o) o.n (set o.counters j w.input))
+  pub top_none : (j : ℕ) (w : Walked) → w.number ≡ None → top_step o j w ≡ step (says none) (order_of (key_of o) o.n (set o.counters j w.input))
   unfolding top_step
-  top_none j w h = rw (le-ltb w.number (4 ^ 15) h) refl
+  top_none j w e = rw e refl
 
-  pub top_high : (j : ℕ) (w : Walked) → w.number < 4 ^ 15 → 4 ^ j ≤ w.number
-      → top_step o j w ≡ step (says (some w.number)) (order_of (key_of o) o.n (set o.counters j w.input))
+  pub top_high : (j y : ℕ) (w : Walked) → w.number ≡ Some y → 4 ^ j ≤ y
+      → top_step o j w ≡ step (says (some y)) (order_of (key_of o) o.n (set o.counters j w.input))
   unfolding top_step
-  top_high j w h l = rw (lt-ltb w.number (4 ^ 15) h, below_no w.number (4 ^ j) l) refl
+  top_high j y w e l = rw (e, below_no y (4 ^ j) l) refl
 
-  pub top_zero : (j : ℕ) (w : Walked) → w.number < 4 ^ 15 → w.number < 4 ^ j → top_step o j w ≡ zero_step o j w.input w.number
+  pub top_zero : (j y : ℕ) (w : Walked) → w.number ≡ Some y → y < 4 ^ j → top_step o j w ≡ zero_step o j w.input y
   unfolding top_step
-  top_zero j w h l = rw (lt-ltb w.number (4 ^ 15) h, below_yes w.number (4 ^ j) l) refl
+  top_zero j y w e l = rw (e, below_yes y (4 ^ j) l) refl
 
   -- ---- the definition stops where the walk does
 
   first_seek : (j : ℕ) → j < length o.counters → 4 ^ j ≤ o.n → o.n ≤ 4 ^ 15 → (c x : ℕ) → x + c ≡ size j
       → first_of o j c (set o.counters j x) ≡ top_step o j (seek (key_of o) j o.n x c)
-  first_seek j l b u zero x e = sym (top_none j (walked x (4 ^ 15)) (omega arith))
+  first_seek j l b u zero x e = sym (top_none j (walked x None) refl)
   first_seek j l b u (suc c) x e =
       let y : ℕ = layer j (key_of o) x in
       by_below y (4 ^ j)
-      (λ t. zero_first j x c l (omega arith) t b ∙ sym (rw (below_yes y o.n (omega arith)) (top_zero j (walked (suc x) y) (omega arith) t)))
+      (λ t. zero_first j x c l (omega arith) t b ∙ sym (rw (below_yes y o.n (omega arith)) (top_zero j y (walked (suc x) (Some y)) refl t)))
       (λ t. let m : zero_top j y ≡ false = top_no j y t in
       by_below y o.n
       (λ q. rw (high_meets (key_of o) o.counters j x l (omega arith) m, high_draw (key_of o) o.counters j x l m, below_yes y o.n q)
-      (sym (top_high j (walked (suc x) y) (omega arith) t)))
+      (sym (top_high j y (walked (suc x) (Some y)) refl t)))
       (λ q. rw (high_meets (key_of o) o.counters j x l (omega arith) m, high_draw (key_of o) o.counters j x l m, below_no y o.n q)
       (first_seek j l b u c (suc x) (omega arith))))
 
@@ -149,14 +150,13 @@ module _ (o : ConsistentPermutation) where
   zero_zero zero x y h = refl
   zero_zero (suc i) x y h = absurd (omega arith)
 
-  -- the descent met a counter at its size, since numbers are below 2^30
-  pub lower_met : (i x y : ℕ) → i < 15 → y ≡ stop_of (key_of o) i o.counters → 4 ^ 15 ≤ y → lower_step o i x ≡ step (refusal 12) o
+  -- the descent met a counter at its size
+  pub lower_met : (i x : ℕ) → None ≡ stop_of (key_of o) i o.counters → lower_step o i x ≡ step (refusal 12) o
   unfolding lower_step stop_of
-  lower_met i x y h e l =
+  lower_met i x e =
       by_test (meets (key_of o) i o.counters)
       (λ m. rw m refl)
-      (λ m. let f : y ≡ (next_number (key_of o) i o.counters).number = rw m at e in
-      absurd (omega (arith, number_lt (key_of o) i o.counters, size_limit i (omega arith))))
+      (λ m. let f : None ≡ Some (next_number (key_of o) i o.counters).number = rw m at e in absurd (cc))
 
   -- it met none
   record Stopped (i y : ℕ) : Type 0 where
@@ -165,12 +165,13 @@ module _ (o : ConsistentPermutation) where
     low : layer_of (y + 1) ≤ i
     raises_to : (next_number (key_of o) i o.counters).counters ≡ raises o.counters (layer_of (y + 1)) (suc i - layer_of (y + 1))
 
-  stopped : (i y : ℕ) → y ≡ stop_of (key_of o) i o.counters → y < 4 ^ 15 → Stopped i y
+  stopped : (i y : ℕ) → Some y ≡ stop_of (key_of o) i o.counters → Stopped i y
   unfolding stop_of
-  stopped i y e l =
+  stopped i y e =
       by_test (meets (key_of o) i o.counters)
-      (λ m. let f : y ≡ 4 ^ 15 = rw m at e in absurd (omega arith))
-      (λ m. let f : y ≡ (next_number (key_of o) i o.counters).number = rw m at e in
+      (λ m. let z : Some y ≡ None = rw m at e in absurd (cc))
+      (λ m. let z : Some y ≡ Some (next_number (key_of o) i o.counters).number = rw m at e in
+      let f : y ≡ (next_number (key_of o) i o.counters).number = cc in
       let r : Tells (key_of o) i o.counters (next_number (key_of o) i o.counters) = next_raised (key_of o) i o.counters in
       let g : layer_of (suc (next_number (key_of o) i o.counters).number) ≡ layer_of (y + 1) = ap layer_of (omega arith) in
       record {
@@ -180,14 +181,18 @@ module _ (o : ConsistentPermutation) where
         raises_to = r.raised ∙ rw g refl;
       })
 
-  pub lower_low : (i y l : ℕ) → y ≡ stop_of (key_of o) i o.counters → y < 4 ^ 15 → l ≡ layer_of (y + 1) → l ≤ i
-  lower_low i y l e h f = omega (arith, (stopped i y e h).low)
+  pub lower_room : (i y : ℕ) → i < 15 → Some y ≡ stop_of (key_of o) i o.counters → y + 1 ≤ 4 ^ 15
+  lower_room i y h e =
+      omega (arith, (stopped i y e).gives, number_lt (key_of o) i o.counters, size_limit i (omega arith))
 
-  pub lower_gave : (top x y l : ℕ) → 0 < top → y ≡ stop_of (key_of o) (top - 1) o.counters → y < 4 ^ 15 → l ≡ layer_of (y + 1)
+  pub lower_low : (i y l : ℕ) → Some y ≡ stop_of (key_of o) i o.counters → l ≡ layer_of (y + 1) → l ≤ i
+  lower_low i y l e f = omega (arith, (stopped i y e).low)
+
+  pub lower_gave : (top x y l : ℕ) → 0 < top → Some y ≡ stop_of (key_of o) (top - 1) o.counters → l ≡ layer_of (y + 1)
       → lower_step o (top - 1) x ≡ step (says (some y)) (order_of (key_of o) o.n (set (raises o.counters l (top - l)) top x))
   unfolding lower_step
-  lower_gave top x y l p e h f =
-      let s : Stopped (top - 1) y = stopped (top - 1) y e h in
+  lower_gave top x y l p e f =
+      let s : Stopped (top - 1) y = stopped (top - 1) y e in
       let g : suc (top - 1) ≡ top = omega arith in
       rw (s.free, s.gives, s.raises_to, g, f) refl
 

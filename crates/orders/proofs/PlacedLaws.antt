@@ -2,11 +2,11 @@
 -- from the layer below.
 -- Assumes nothing.
 use mathlib.Core.Path.{◌≡◌, refl, ap, sym, ◌∙◌}
-use mathlib.Core.List.{List, [], ◌∷◌, ◌++◌}
+use mathlib.Core.List.{List, [], ◌∷◌, ◌++◌, append-nil}
 use Prim.Native.Nat.{ℕ, zero, suc, ◌+◌, ◌-◌, ◌^◌, ◌<◌, ◌≤◌}
 use native.Mathlib.Nat.{zero-add}
 use native.Mathlib.Omega.{arith}
-use lib.ListN.{length, take, drop, set, length-append, length-take, length-drop}
+use lib.ListN.{length, take, drop, drop_of_length-le, set, length-append, length-take, length-drop}
 use lib.Seq.{take_at, length-take-le, drop-append-add, drop-drop}
 use Rattle.lists.specs.Lists.{below, up_to, replace, written}
 use Rattle.lists.proofs.Tests.{below_yes}
@@ -60,6 +60,14 @@ lay_more key (suc i) u t l z h e =
 pub length_placed : (key m u : ℕ) (l : List ℕ) → u ≤ 4 ^ m → u ≤ length l → length (placed key m u l) ≡ length l
 unfolding placed
 length_placed key m u l h k = simp (length-append, length-take, length-drop) (omega (arith, (place_order key m).size))
+
+-- laid down over the first u alone, they are laid down over the list
+pub placed_front : (key m u : ℕ) (l : List ℕ) → u ≤ length l → placed key m (length (take u l)) (take u l) ++ drop u l ≡ placed key m u l
+unfolding placed
+placed_front key m u l h =
+    let n : length (take u l) ≡ u = length-take-le u l h in
+    let none : drop u (take u l) ≡ [] = drop_of_length-le (take u l) (omega (arith, n)) in
+    rw (n, none, append-nil)
 
 -- ---- the opening
 

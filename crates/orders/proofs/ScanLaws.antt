@@ -1,11 +1,12 @@
 -- The loops that look through a layer's outputs: what is left gives the whole.
 -- Assumes nothing.
 use mathlib.Core.Path.{◌≡◌, refl, sym, ap, ◌∙◌}
-use mathlib.Core.Bool.{cond}
+use mathlib.Core.Bool.{Bool, true, false, cond}
+use Rattle.std.specs.Int.{from_bool}
 use mathlib.Core.List.{List, [], ◌∷◌}
 use Prim.Native.Nat.{ℕ, zero, suc, ◌+◌, ◌-◌, ◌^◌, ◌<◌, ◌≤◌, min}
 use native.Mathlib.Numerals.{add-one}
-use native.Mathlib.Nat.{add-zero, zero-add}
+use native.Mathlib.Nat.{add-zero, zero-add, sub-zero}
 use native.Mathlib.Omega.{arith}
 use lib.Dec.{ltb}
 use lib.ListN.{get_or}
@@ -14,8 +15,6 @@ use Rattle.lists.specs.Lists.{keep, below, not_below, count_below, up_to}
 use Rattle.lists.proofs.Tests.{by_below}
 use Rattle.lists.proofs.Prefixes.{up_to_zero}
 use Rattle.layers.specs.Layer.{size, layer}
-use Rattle.layers.specs.declared.KeyedLayer.{KeyedLayer}
-use Rattle.layers.specs.KeyedLayers.{keyed_layer}
 use Rattle.orders.specs.declared.scans.Scan.{Scan}
 use Rattle.orders.specs.Reservoirs.{outputs}
 use Rattle.orders.specs.InnerPasses.{outs, least, scanned, scan_of, rank_of}
@@ -25,6 +24,20 @@ use Rattle.orders.specs.InnerPasses.{outs, least, scanned, scan_of, rank_of}
 least_min : (y d : ℕ) (xs : List ℕ) → least (min y d) xs ≡ min y (least d xs)
 least_min y d [] = refl
 least_min y d (x ∷ xs) = omega (arith, least_min y d xs)
+
+-- ---- a test as a number
+
+pub more_is : (b : Bool) (t : ℕ) → t + from_bool b ≡ cond b (t + 1) t
+more_is true t = refl
+more_is false t = add-zero t
+
+pub fewer_is : (b : Bool) (t : ℕ) → t - from_bool b ≡ cond b (t - 1) t
+fewer_is true t = refl
+fewer_is false t = sub-zero t
+
+pub test_le : (b : Bool) → from_bool b ≤ 1
+test_le true = omega arith
+test_le false = omega arith
 
 -- ---- the outputs of a layer from an input on
 
@@ -37,11 +50,6 @@ outs_none : (key i x N : ℕ) → N ≤ x → outs key i x (N - x) ≡ []
 outs_none key i x N h =
     let e : N - x ≡ 0 = omega arith in
     rw e
-
--- ---- the record of a layer
-
-pub keyed_size : (f : KeyedLayer) (i key : ℕ) → f ≡ keyed_layer i key → f.size ≡ size i
-keyed_size f i key e = ap (λ (g : KeyedLayer). g.size) e
 
 -- ---- the scan of a layer
 

@@ -9,8 +9,8 @@ use native.Mathlib.Nat.{add-zero}
 use native.Mathlib.Omega.{arith}
 use lib.Dec.{ltb}
 use lib.Bits.{bit_or}
-use lib.ListN.{length, take, drop, get_or, drop_of_length-le}
-use lib.Seq.{drop-cons, get_or-take, length-take-le}
+use lib.ListN.{length, drop, get_or, drop_of_length-le}
+use lib.Seq.{drop-cons}
 use borrow.Author.Tests.{lt-ltb, le-ltb}
 use Rattle.lists.specs.Lists.{below}
 use Rattle.lists.proofs.Tests.{by_below}
@@ -29,34 +29,24 @@ survey_step n c low high x xs =
     (λ l. rw (lt-ltb x n l) (survey_eq (omega arith) (waiting_in n x low xs ∙ rw (lt-ltb x n l)) refl))
     (λ l. rw (le-ltb x n l) (survey_eq refl (waiting_in n x low xs ∙ rw (le-ltb x n l)) refl))
 
-pub survey_turn : (list : List ℕ) (used n i c low high c' low' high' : ℕ) {s : Survey} → used ≤ length list → i < used
+pub survey_turn : (list : List ℕ) (n i c low high c' low' high' : ℕ) {s : Survey} → i < length list
     → c' ≡ cond (ltb (get_or list i 0) n) (c + 1) c → low' ≡ cond (ltb (get_or list i 0) n) low (min (get_or list i 0) low) → high' ≡ bit_or high (get_or list i 0)
-    → surveyed n c low high (drop i (take used list)) ≡ s → surveyed n c' low' high' (drop (i + 1) (take used list)) ≡ s
-survey_turn list used n i c low high c' low' high' fits h e f g inv =
-    let l : i < length (take used list) = omega (arith, length-take-le used list fits) in
-    let q : drop i (take used list) ≡ get_or list i 0 ∷ drop (i + 1) (take used list) = rw (add-one, drop-cons (take used list) i 0 l, get_or-take used list i 0 h) in
-    rw (e, f, g) (sym (survey_step n c low high (get_or list i 0) (drop (i + 1) (take used list))) ∙ ap (surveyed n c low high) (sym q) ∙ inv)
+    → surveyed n c low high (drop i list) ≡ s → surveyed n c' low' high' (drop (i + 1) list) ≡ s
+survey_turn list n i c low high c' low' high' h e f g inv =
+    let q : drop i list ≡ get_or list i 0 ∷ drop (i + 1) list = rw (add-one, drop-cons list i 0 h) in
+    rw (e, f, g) (sym (survey_step n c low high (get_or list i 0) (drop (i + 1) list)) ∙ ap (surveyed n c low high) (sym q) ∙ inv)
 
-pub survey_done : (list : List ℕ) (used n i c low high : ℕ) {s : Survey} → used ≤ length list → used ≤ i
-    → surveyed n c low high (drop i (take used list)) ≡ s → record { count = c; low = low; high = high } ≡ s
-survey_done list used n i c low high fits h inv =
-    let l : length (take used list) ≤ i = omega (arith, length-take-le used list fits) in
-    survey_eq (sym (add-zero c)) refl refl ∙ ap (surveyed n c low high) (sym (drop_of_length-le (take used list) l)) ∙ inv
+pub survey_done : (list : List ℕ) (n i c low high : ℕ) {s : Survey} → length list ≤ i
+    → surveyed n c low high (drop i list) ≡ s → record { count = c; low = low; high = high } ≡ s
+survey_done list n i c low high h inv =
+    survey_eq (sym (add-zero c)) refl refl ∙ ap (surveyed n c low high) (sym (drop_of_length-le list h)) ∙ inv
 
 survey_start : (n : ℕ) (xs : List ℕ) → surveyed n 0 (4 ^ 15) 0 (drop 0 xs) ≡ survey_of n xs
 unfolding survey_of
 survey_start n xs = refl
 
--- a count goes up by at most 1
-pub step_le : (y b t t' x : ℕ) → t ≤ x → t' ≡ cond (ltb y b) (t + 1) t → t' ≤ x + 1
-step_le y b t t' x h e = rw e (step (ltb y b))
-  where
-    step : (a : Bool) → cond a (t + 1) t ≤ x + 1
-    step true = omega arith
-    step false = omega arith
-
 -- the minimum of what is not below n, less n
-pub closer_is : (x n near d r : ℕ) → x < 4294967296 → near + n ≤ 4 ^ 15 → d ≡ (x + (4294967296 - n)) % 4294967296 → r ≡ min d near → r + n ≡ cond (ltb x n) (near + n) (min x (near + n))
+pub closer_is : (x n near d r : ℕ) → x < 4294967296 → near + n ≤ 4 ^ 15 → d ≡ (x + (4294967296 - n)) % 4294967296 → r ≡ min near d → r + n ≡ cond (ltb x n) (near + n) (min x (near + n))
 closer_is x n near d r h g e f =
     by_below x n (λ l. rw (lt-ltb x n l) (omega arith)) (λ l. rw (le-ltb x n l) (omega arith))
 

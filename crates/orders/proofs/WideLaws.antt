@@ -2,6 +2,7 @@
 -- Assumes nothing.
 use mathlib.Core.Path.{◌≡◌, refl, ap, sym, ◌∙◌}
 use mathlib.Core.Bool.{Bool, cond}
+use Rattle.std.specs.Prelude.{None, Some}
 use mathlib.Core.Option.{Option, none, some}
 use Prim.Native.Nat.{ℕ, suc, ◌+◌, ◌-◌, ◌^◌, ◌<◌, ◌≤◌}
 use native.Mathlib.Numerals.{add-one}
@@ -47,12 +48,12 @@ search_step t i h =
     rw (e, add-one)
 
 pub wider_here : (key k j i : ℕ) (s : Scan) → i < 15 → s ≡ scan_of key i (4 ^ i) k → k < s.inputs
-    → first_from (more_than key k) i (15 - i) ≡ wider key k j → record { layer = i; inputs = s.inputs; low = s.low } ≡ wide_of key k j
+    → first_from (more_than key k) i (15 - i) ≡ wider key k j → Some (record { layer = i; inputs = s.inputs; low = s.low }) ≡ wide_of key k j
 unfolding wide_of
 wider_here key k j i s h e g inv =
     let p = scan_inputs key i k s e in
     let f : wider key k j ≡ some i = sym inv ∙ search_step (more_than key k) i h ∙ rw (lt-ltb k (length (up_to_zeros key i k)) (omega arith)) in
-    rw f (wide_eq refl p (scan_low key i k s e))
+    rw f (ap Some (wide_eq refl p (scan_low key i k s e)))
 
 pub wider_go : (key k j i : ℕ) (s : Scan) → i < 15 → s ≡ scan_of key i (4 ^ i) k → s.inputs ≤ k
     → first_from (more_than key k) i (15 - i) ≡ wider key k j → first_from (more_than key k) (i + 1) (15 - (i + 1)) ≡ wider key k j
@@ -60,7 +61,7 @@ wider_go key k j i s h e g inv =
     let p = scan_inputs key i k s e in
     sym (search_step (more_than key k) i h ∙ rw (le-ltb k (length (up_to_zeros key i k)) (omega arith))) ∙ inv
 
-pub wider_none : (key k j i : ℕ) → 15 ≤ i → first_from (more_than key k) i (15 - i) ≡ wider key k j → record { layer = 15; inputs = 0; low = 0 } ≡ wide_of key k j
+pub wider_none : (key k j i : ℕ) → 15 ≤ i → first_from (more_than key k) i (15 - i) ≡ wider key k j → None ≡ wide_of key k j
 unfolding wide_of
 wider_none key k j i h inv =
     let e : 15 - i ≡ 0 = omega arith in
@@ -72,6 +73,7 @@ wider_none key k j i h inv =
 pub record Found (key k j : ℕ) (w : Wide) : Type 0 where
   pub is : wider key k j ≡ some w.layer
   pub high : j < w.layer
+  pub top : w.layer < 15
   pub inputs : w.inputs ≡ length (up_to_zeros key w.layer k)
   pub more : k < length (up_to_zeros key w.layer k)
   pub lowest : w.low ≡ low_of (4 ^ w.layer) (up_to_zeros key w.layer k)
@@ -80,30 +82,29 @@ wider_open : (key k j : ℕ) → first_from (more_than key k) (suc j) (14 - j) �
 unfolding wider
 wider_open key k j = refl
 
-found_at : (key k j : ℕ) (o : Option ℕ) → wider key k j ≡ o → (w : Wide) → w ≡ widened key k o → w.layer < 15 → Found key k j w
-found_at key k j none e w f h = absurd (let g : w.layer ≡ 15 = ap (λ (z : Wide). z.layer) f in omega arith)
-found_at key k j (some i) e w f h =
-    let g : w.layer ≡ i = ap (λ (z : Wide). z.layer) f in
+found_at : (key k j : ℕ) (o : Option ℕ) → wider key k j ≡ o → j < 15 → (w : Wide) → Some w ≡ widened key k o → Found key k j w
+found_at key k j none e p w z = absurd (cc)
+found_at key k j (some i) e p w z =
+    let f : w ≡ record { layer = i; inputs = length (up_to_zeros key i k); low = low_of (4 ^ i) (up_to_zeros key i k) } = cc in
+    let g : w.layer ≡ i = ap (λ (v : Wide). v.layer) f in
     let b = first_is (more_than key k) (suc j) (14 - j) i (wider_open key k j ∙ e) in
     record {
       is = e ∙ ap some (sym g);
       high = omega (arith, b.0);
-      inputs = ap (λ (z : Wide). z.inputs) f ∙ ap (λ (z : ℕ). length (up_to_zeros key z k)) (sym g);
+      top = omega (arith, b.1);
+      inputs = ap (λ (v : Wide). v.inputs) f ∙ ap (λ (v : ℕ). length (up_to_zeros key v k)) (sym g);
       more = ltb-true k (length (up_to_zeros key w.layer k)) (ap (more_than key k) g ∙ b.2);
-      lowest = ap (λ (z : Wide). z.low) f ∙ ap (λ (z : ℕ). low_of (4 ^ z) (up_to_zeros key z k)) (sym g);
+      lowest = ap (λ (v : Wide). v.low) f ∙ ap (λ (v : ℕ). low_of (4 ^ v) (up_to_zeros key v k)) (sym g);
     }
 
-pub found : (key k j : ℕ) (w : Wide) → w ≡ wide_of key k j → w.layer < 15 → Found key k j w
+pub found : (key k j : ℕ) (w : Wide) → j < 15 → Some w ≡ wide_of key k j → Found key k j w
 unfolding wide_of
-found key k j w f h = found_at key k j (wider key k j) refl w f h
+found key k j w p f = found_at key k j (wider key k j) refl p w f
 
-none_at : (key k j : ℕ) (o : Option ℕ) → wider key k j ≡ o → j < 15 → (w : Wide) → w ≡ widened key k o → 14 < w.layer → wider key k j ≡ none
-none_at key k j none e p w f h = e
-none_at key k j (some i) e p w f h =
-    let g : w.layer ≡ i = ap (λ (z : Wide). z.layer) f in
-    let b = first_is (more_than key k) (suc j) (14 - j) i (wider_open key k j ∙ e) in
-    absurd (omega (arith, b.1))
+none_at : (key k : ℕ) (o : Option ℕ) → None ≡ widened key k o → o ≡ none
+none_at key k none f = refl
+none_at key k (some i) f = absurd (cc)
 
-pub found_none : (key k j : ℕ) (w : Wide) → j < 15 → w ≡ wide_of key k j → 14 < w.layer → wider key k j ≡ none
+pub found_none : (key k j : ℕ) → None ≡ wide_of key k j → wider key k j ≡ none
 unfolding wide_of
-found_none key k j w p f h = none_at key k j (wider key k j) refl p w f h
+found_none key k j f = none_at key k (wider key k j) f

@@ -1,18 +1,23 @@
 -- What the promises of private functions on lists and layers say. No public promise cites this file.
 -- Assumes nothing.
-use Rattle.std.specs.Prelude.{Bool, cond, ◌&&◌, List, [], ◌∷◌, ◌++◌, map, ℕ, zero, suc, ◌+◌, ◌^◌, min, ltb, leb, eqb, length, take, drop}
+use Rattle.std.specs.Prelude as rust
+use Rattle.std.specs.Prelude.{Some, None, cond, List, [], ◌∷◌, ◌++◌, map, ℕ, zero, suc, ◌+◌, ◌^◌, min, ltb, eqb, length, take, drop}
 use Rattle.std.proofs.Math.Option.{Option, none, some}
 use Rattle.std.specs.Int.Bits.{bit_or}
+use Rattle.lists.specs.Told.{Told, refusal, says}
 use Rattle.lists.specs.Lists.{keep, below, not_below, count_below, from, up_to, replace}
-use Rattle.layers.specs.Layer.{size, layer}
+use Rattle.layers.specs.Layer.{layer}
 use Rattle.orders.specs.declared.consistent_reservoir.ConsistentReservoir.{ConsistentReservoir}
 use Rattle.orders.specs.declared.scans.Scan.{Scan}
 use Rattle.orders.specs.declared.scans.Wide.{Wide}
 use Rattle.orders.specs.declared.checks.Survey.{Survey}
-use Rattle.orders.specs.declared.checks.Check.{Check}
 use Rattle.orders.specs.Reservoirs.{outputs, up_to_zeros, wider}
 use Rattle.orders.specs.declared.consistent_reservoir.Exchange.{Exchange}
-use Rattle.orders.specs.ReservoirCalls.{j_of, listed, fitting}
+use Rattle.orders.specs.ReservoirCalls.{listed, fitting}
+
+-- what of an open's refusals goes by k and n: 1, 2, 3
+unfoldable pub test_of : ℕ → ℕ → Told (Unit {0})
+test_of k n = cond (ltb (2 ^ 30) n) (refusal 1) (cond (eqb k 0) (refusal 2) (cond (ltb n k) (refusal 3) (says tt)))
 
 -- c outputs of layer i from the input x on
 abbrev pub outs : ℕ → ℕ → ℕ → ℕ → List ℕ
@@ -46,12 +51,12 @@ scan_of key i b k = scanned b k 0 (4 ^ 15) (outputs key i)
 unfoldable pub rank_of : ℕ → ℕ → ℕ → ℕ
 rank_of key i u = count_below (4 ^ i) (outs key i 0 u)
 
--- the layer that a growth goes to, 15 for none, its inputs, and its smallest output that is not 00
-abbrev pub widened : ℕ → ℕ → Option ℕ → Wide
-widened key k none = record { layer = 15; inputs = 0; low = 0 }
-widened key k (some i) = record { layer = i; inputs = length (up_to_zeros key i k); low = low_of (4 ^ i) (up_to_zeros key i k) }
+-- the layer that a growth goes to, its inputs, and its smallest output that is not 00
+abbrev pub widened : ℕ → ℕ → Option ℕ → rust.Option Wide
+widened key k none = None
+widened key k (some i) = Some (record { layer = i; inputs = length (up_to_zeros key i k); low = low_of (4 ^ i) (up_to_zeros key i k) })
 
-unfoldable pub wide_of : ℕ → ℕ → ℕ → Wide
+unfoldable pub wide_of : ℕ → ℕ → ℕ → rust.Option Wide
 wide_of key k j = widened key k (wider key k j)
 
 -- ---- a list written in place
@@ -77,17 +82,9 @@ surveyed n c low high xs = record { count = c + count_below n xs; low = least lo
 unfoldable pub survey_of : ℕ → List ℕ → Survey
 survey_of n xs = surveyed n 0 (4 ^ 15) 0 xs
 
--- what of refusal 12 the record's numbers and the list's length decide
-unfoldable pub shape_of : ConsistentReservoir → ℕ → Bool
-shape_of r len = leb (j_of r) 14 && leb 1 r.k && leb r.k r.n && leb r.n (size (j_of r)) && leb r.used len
-
--- and what the pass found, and the last listed number
-unfoldable pub close_of : ConsistentReservoir → Survey → ℕ → Bool
-close_of r s x = eqb s.count r.k && ltb s.high (size (j_of r)) && ltb x r.n
-
--- the whole test, and the smallest listed number not below n
-unfoldable pub check_of : ConsistentReservoir → List ℕ → Check
-check_of r l = record { fits = fitting r l; low = cond (fitting r l) (low_of r.n (listed r l)) 0 }
+-- the smallest listed number not below n, if the record fits its list
+unfoldable pub check_of : ConsistentReservoir → List ℕ → rust.Option ℕ
+check_of r l = cond (fitting r l) (Some (low_of r.n (listed r l))) None
 
 -- what an admit that exchanges says
 abbrev pub exchanged : Exchange → Option (ℕ × ℕ)

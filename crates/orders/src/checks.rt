@@ -1,40 +1,33 @@
 // A record against its list (refusal 12), by one pass that also finds the smallest waiting number.
-ghost use Rattle.std.specs.Prelude.{◌≡◌, false, ◌+◌, ◌^◌, ◌<◌, ◌≤◌, length, take};
-ghost use Rattle.lists.specs.Lists.{last};
-ghost use Rattle.orders.specs.InnerPasses.{survey_of, shape_of, close_of, check_of};
+ghost use Rattle.std.specs.Prelude.{◌≡◌, ◌^◌, ◌<◌, ◌≤◌, length};
+ghost use Rattle.orders.specs.InnerPasses.{survey_of, check_of};
 
 use crate::consistent_reservoir::ConsistentReservoir;
-use crate::{scans, steps};
+use crate::layer::Layer;
 
-// What one pass over the listed numbers finds: how many are below n, the smallest not below n, the or of all.
+// What one pass over the listed numbers finds: how many are below n, the smallest not below n, the or of all. The smallest is at
+// most 2^30: there the minimum starts, since an Option would be a branch in each turn.
 #[derive(Clone, Copy)]
-pub struct Survey {
-    pub count: u32,
-    pub low: u32,
-    pub high: u32,
+pub(crate) struct Survey {
+    pub(crate) count: u32,
+    pub(crate) low: u32,
+    pub(crate) high: u32,
 }
 
-// Whether a record fits its list, and the smallest listed number not below n.
-#[derive(Drop)]
-pub struct Check {
-    pub fits: bool,
-    pub low: u32,
-}
-
-fn survey_list(list: &[u32], used: usize, n: u32) -> Survey
-    requires { (used ≤ length list.now) × (used < 4294967296) × (n ≤ 4 ^ 15) }
-    ensures { result ≡ survey_of n (take used list.now) }
+// Each turn is without a branch, so that the compiler takes several at once: of the numbers less n, around 2^32, those below n
+// come last.
+fn survey_list(list: &[u32], n: u32) -> Survey
+    requires few { length list.now < 4294967296 }
+    requires limit { n ≤ 4 ^ 15 }
+    ensures { result ≡ survey_of n list.now }
 {
-    let mut i: usize = 0;
-    let mut count: u32 = 0;
-    let mut near: u32 = 1073741824 - n;
-    let mut high: u32 = 0;
-    while i < used {
-        let x = list[i];
-        count = steps::more(x, n, count);
-        near = steps::closer(x, n, near);
-        high = high | x;
-        i += 1;
+    let mut count = 0;
+    let mut near = 0x4000_0000 - n;
+    let mut high = 0;
+    for x in list {
+        count += u32::from(*x < n);
+        near = near.min(x.wrapping_sub(n));
+        high |= *x;
     }
     Survey {
         count,
@@ -43,79 +36,19 @@ fn survey_list(list: &[u32], used: usize, n: u32) -> Survey
     }
 }
 
-// The numbers of the record, against the length of its list.
-fn shaped(r: ConsistentReservoir, len: usize) -> bool
-    ensures { result ≡ shape_of r len }
-{
-    let j = r.j_max;
-    if 14 < j {
-        return false;
-    }
-    let k = r.k;
-    if k == 0 {
-        return false;
-    }
-    let n = r.n;
-    if n < k {
-        return false;
-    }
-    if scans::size_of(j) < n {
-        return false;
-    }
-    let used = r.used;
-    (used as usize) <= len
-}
-
-// The last of the first u of a list, or 0 of none.
-fn last_of(list: &[u32], u: usize) -> u32
-    requires { u ≤ length list.now }
-    ensures { result ≡ last (take u list.now) }
-{
-    if u == 0 {
-        return 0;
-    }
-    list[u - 1]
-}
-
-// Exactly k below n, none of the layer's size or more, the last below n.
-fn closes(r: ConsistentReservoir, s: Survey, end: u32) -> bool
-    requires { r.j_max < 15 }
-    ensures { result ≡ close_of r s end }
-{
-    if s.count != r.k {
-        return false;
-    }
-    let j = r.j_max;
-    if scans::size_of(j) <= s.high {
-        return false;
-    }
-    end < r.n
-}
-
-fn unfit() -> Check
-    ensures { result ≡ record { fits = false; low = 0 } }
-{
-    Check {
-        fits: false,
-        low: 0,
-    }
-}
-
-pub(crate) fn checked(r: ConsistentReservoir, list: &[u32]) -> Check
+// The smallest listed number not below n, at most 2^30, if the record fits its list: exactly k listed numbers below n, none of
+// the layer's size or more, the last below n.
+pub(crate) fn checked(r: ConsistentReservoir, list: &[u32]) -> Option<u32>
     ensures { result ≡ check_of r list.now }
 {
-    if !shaped(r, list.len()) {
-        return unfit();
+    let layer = Layer::new(r.j_max)?;
+    if r.k == 0 || r.n < r.k || layer.size() < r.n || list.len() < r.used as usize {
+        return None;
     }
-    let used = r.used as usize;
-    let n = r.n;
-    let s = survey_list(list, used, n);
-    let end = last_of(list, used);
-    if !closes(r, s, end) {
-        return unfit();
+    let listed = &list[..r.used as usize];
+    let s = survey_list(listed, r.n);
+    if s.count != r.k || layer.size() <= s.high || r.n <= listed[listed.len() - 1] {
+        return None;
     }
-    Check {
-        fits: true,
-        low: s.low,
-    }
+    Some(s.low)
 }

@@ -6,7 +6,8 @@ ghost use Rattle.orders.specs.Orders.{layer_of, counter};
 ghost use Rattle.orders.specs.OrderCalls.{new_call, step, within, first_of, next_call};
 ghost use Rattle.orders.specs.InnerCounters.{lower_step};
 
-use crate::{counters, scans};
+use crate::counters;
+use crate::layer::Layer;
 use answers::Refusal;
 
 // An order and how far it was walked: a counter for each layer, the next input of that layer.
@@ -49,45 +50,43 @@ impl ConsistentPermutation {
         if self.n == 0 {
             return Ok(None);
         }
-        self.first(scans::layer_of(self.n))
+        self.first(Layer::of(self.n))
     }
 
     // The next number below n, j being the layer of n.
-    fn first(&mut self, j: u32) -> Result<Option<u32>, Refusal>
-        requires layer { j ≡ layer_of self.old.n }
-        requires low { j < 15 }
+    fn first(&mut self, j: Layer) -> Result<Option<u32>, Refusal>
+        requires layer { j.number ≡ layer_of self.old.n }
         requires some { 0 < self.old.n }
         requires limit { self.old.n ≤ 1073741824 }
         requires fit { within self.old.counters ≡ true }
-        ensures { step (told_option result) self.new ≡ first_of self.old j (size j - counter self.old.counters j) self.old.counters }
+        ensures { step (told_option result) self.new ≡ first_of self.old j.number (size j.number - counter self.old.counters j.number) self.old.counters }
     {
         let from = counters::counter_at(self.counters, j);
         let w = counters::walk(j, self.master_key, self.n, from);
-        let y = w.number;
-        if 1073741824 <= y {
-            self.counters = counters::with_counter(self.counters, j, w.input);
+        let Some(y) = w.number else {
+            counters::set_counter(&mut self.counters, j, w.input);
             return Ok(None);
-        }
-        if scans::quarter_of(j) <= y || j == 0 {
-            self.counters = counters::with_counter(self.counters, j, w.input);
+        };
+        if j.quarter() <= y || j.number == 0 {
+            counters::set_counter(&mut self.counters, j, w.input);
             return Ok(Some(y));
         }
         self.lower(j, w.input)
     }
 
     // The top layer gave an output 00 and stands at the input x: the number is the next of the layer below.
-    fn lower(&mut self, top: u32, x: u32) -> Result<Option<u32>, Refusal>
-        requires above { 0 < top }
-        requires low { top < 15 }
+    fn lower(&mut self, top: Layer, x: u32) -> Result<Option<u32>, Refusal>
+        requires above { 0 < top.number }
         requires fit { within self.old.counters ≡ true }
-        ensures { step (told_option result) self.new ≡ lower_step self.old (top - 1) x }
+        ensures { step (told_option result) self.new ≡ lower_step self.old (top.number - 1) x }
     {
-        let y = counters::stop(self.master_key, top - 1, self.counters);
-        if 1073741824 <= y {
+        let below = Layer {
+            number: top.number - 1,
+        };
+        let Some(y) = counters::stop(self.master_key, below, self.counters) else {
             return Err(Refusal::Misfit);
-        }
-        let low = scans::layer_of(y + 1);
-        self.counters = counters::raised(self.counters, low, top, x);
+        };
+        counters::raise(&mut self.counters, Layer::of(y + 1), top, x);
         Ok(Some(y))
     }
 

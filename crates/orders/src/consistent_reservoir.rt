@@ -5,13 +5,16 @@ ghost use Rattle.lists.specs.Told.{map_told, says};
 ghost use Rattle.answers.specs.Refusals.{number, told};
 ghost use Rattle.orders.specs.Reservoirs.{grown};
 ghost use Rattle.orders.specs.ReservoirCalls.{key_of, j_of, listed, fitting, after_open, open_call, short_refusal, told_exchange, after, exchange, admit_call, grow_to, grow_layer_call, after_sample, sample_call};
-ghost use Rattle.orders.specs.InnerPasses.{wide_of, low_of, exchanged};
+ghost use Rattle.orders.specs.InnerPasses.{test_of, wide_of, low_of, exchanged};
 
+use crate::layer::Layer;
+use crate::outputs::Outputs;
 use crate::scans::Wide;
 use crate::{checks, fills, scans};
 use answers::Refusal;
 
-// A reservoir's numbers: the key, k, n, the layer and how many places of the list are in use.
+// A reservoir's numbers: the key, k, n, the layer and how many places of the list are in use. The list is lent, since there is
+// no heap, and C keeps these numbers in words; so the layer is any number here, and a call tests it.
 #[derive(Clone, Copy, Debug, PartialEq, Eq)]
 pub struct ConsistentReservoir {
     pub master_key: u64,
@@ -39,6 +42,40 @@ impl ConsistentReservoir {
     pub fn new(k: u32, n: u32, key: u64, list: &mut [u32]) -> Result<Self, Refusal>
         ensures { after_open (told result) list.new ≡ open_call k n key list.old }
     {
+        Self::tested(k, n)?;
+        // The used length is at least k, so that a list too short for k is known before the scan.
+        if list.len() < (k as usize) {
+            return Err(Refusal::ShortMemory);
+        }
+        let layer = Layer::of(n);
+        let used = Outputs::new(layer, key).scan(n, k).inputs;
+        if list.len() < (used as usize) {
+            return Err(Refusal::ShortMemory);
+        }
+        fills::lay(layer.number + 1, key, &mut list[..used as usize]);
+        Ok(ConsistentReservoir {
+            master_key: key,
+            k,
+            n,
+            j_max: layer.number,
+            used,
+        })
+    }
+
+    // The refusal of an open with k of n for which some memory is too short: 1, 2, 3, else 4.
+    pub fn short_refusal(k: u32, n: u32) -> Refusal
+        ensures { number result ≡ short_refusal k n }
+    {
+        match Self::tested(k, n) {
+            Ok(()) => Refusal::ShortMemory,
+            Err(why) => why,
+        }
+    }
+
+    // The refusals of an open that go by k and n: 1, 2, 3.
+    fn tested(k: u32, n: u32) -> Result<(), Refusal>
+        ensures { told result ≡ test_of k n }
+    {
         if Self::N_LIMIT < n {
             return Err(Refusal::NAboveLimit);
         }
@@ -48,66 +85,32 @@ impl ConsistentReservoir {
         if n < k {
             return Err(Refusal::KAboveN);
         }
-        // The used length is at least k, so that a list too short for k is known before the scan.
-        if list.len() < (k as usize) {
-            return Err(Refusal::ShortMemory);
-        }
-        let j = scans::layer_of(n);
-        let s = scans::scan_below(j, key, n, k);
-        let used = s.inputs;
-        if list.len() < (used as usize) {
-            return Err(Refusal::ShortMemory);
-        }
-        fills::lay(j + 1, key, used, list);
-        Ok(ConsistentReservoir {
-            master_key: key,
-            k,
-            n,
-            j_max: j,
-            used,
-        })
-    }
-
-    // The refusal of an open with k of n for which some memory is too short: 1, 2, 3, else 4.
-    pub fn short_refusal(k: u32, n: u32) -> Refusal
-        ensures { number result ≡ short_refusal k n }
-    {
-        if Self::N_LIMIT < n {
-            return Refusal::NAboveLimit;
-        }
-        if k == 0 {
-            return Refusal::KIsZero;
-        }
-        if n < k {
-            return Refusal::KAboveN;
-        }
-        Refusal::ShortMemory
+        Ok(())
     }
 
     // Whether the record fits its list: refusal 12 of the other calls.
     pub fn fits(self, list: &[u32]) -> bool
         ensures { result ≡ fitting self list.now }
     {
-        checks::checked(self, list).fits
+        checks::checked(self, list).is_some()
     }
 
     // Admit: refusals 12, 4.
     pub fn next(&mut self, list: &mut [u32]) -> Result<Option<Exchange>, Refusal>
         ensures { after (told_exchange result) self.new list.new ≡ admit_call self.old list.old }
     {
-        let c = checks::checked(*self, list);
-        if !c.fits {
+        let Some(low) = checks::checked(*self, list) else {
             return Err(Refusal::Misfit);
-        }
+        };
         if self.k < self.used {
-            return Ok(Some(self.admit_here(list, c.low)));
+            return Ok(Some(self.admit_here(list, low)));
         }
-        let w = scans::wider_than(self.j_max, self.master_key, self.k);
-        if Self::LAYER_LIMIT < w.layer {
+        let layer = Layer { number: self.j_max };
+        let Some(wide) = scans::wider_than(layer, self.master_key, self.k) else {
             self.j_max = Self::LAYER_LIMIT;
             return Ok(None);
-        }
-        let exchange = self.admit_above(w, list)?;
+        };
+        let exchange = self.admit_above(wide, list)?;
         Ok(Some(exchange))
     }
 
@@ -118,13 +121,12 @@ impl ConsistentReservoir {
         requires low { v ≡ low_of self.old.n (listed self.old list.now) }
         ensures { after (says (exchanged result)) self.new list.now ≡ exchange self.old (j_of self.old) (listed self.old list.now) list.now }
     {
-        let last = self.used - 1;
-        let end = scans::trimmed(list, v, self.k, last);
+        let last = self.used as usize - 1;
+        self.used = scans::standing(&list[..last], v, self.k);
         self.n = v + 1;
-        self.used = end;
         Exchange {
             enters: v,
-            leaves: list[last as usize],
+            leaves: list[last],
         }
     }
 
@@ -132,24 +134,22 @@ impl ConsistentReservoir {
     fn admit_above(&mut self, w: Wide, list: &mut [u32]) -> Result<Exchange, Refusal>
         requires fit { fitting self.old list.old ≡ true }
         requires full { self.old.used ≤ self.old.k }
-        requires layer { w.layer < 15 }
-        requires wide { w ≡ wide_of (key_of self.old) self.old.k (j_of self.old) }
+        requires wide { Some w ≡ wide_of (key_of self.old) self.old.k (j_of self.old) }
         ensures { after (map_told exchanged (told result)) self.new list.new ≡ exchange self.old w.layer (grown (key_of self.old) w.layer self.old.k (listed self.old list.old)) list.old }
     {
+        let outputs = Outputs::new(Layer { number: w.layer }, self.master_key);
+        let enters = w.low;
         let last = self.k - 1;
-        let end = scans::ended(w.layer, self.master_key, w.low, self.k, w.inputs - 1);
+        let end = outputs.standing(enters, self.k, w.inputs - 1);
         if list.len() < (end as usize) {
             return Err(Refusal::ShortMemory);
         }
         let leaves = list[last as usize];
-        fills::cover(w.layer, self.master_key, end, last, list);
-        self.n = w.low + 1;
+        fills::cover(outputs, last, &mut list[..end as usize]);
+        self.n = enters + 1;
         self.j_max = w.layer;
         self.used = end;
-        Ok(Exchange {
-            enters: w.low,
-            leaves,
-        })
+        Ok(Exchange { enters, leaves })
     }
 
     // The step to the next layer: refusals 12, 7, 8, 4.
@@ -175,13 +175,16 @@ impl ConsistentReservoir {
         requires layer { j_of self.old < 14 }
         ensures { after (told result) self.new list.new ≡ grow_to self.old (grown (key_of self.old) (j_of self.old + 1) self.old.k (listed self.old list.old)) list.old }
     {
-        let i = self.j_max + 1;
-        let inputs = scans::scan_zeros(i, self.master_key, self.k).inputs;
+        let layer = Layer {
+            number: self.j_max + 1,
+        };
+        let outputs = Outputs::new(layer, self.master_key);
+        let inputs = outputs.scan(layer.quarter(), self.k).inputs;
         if list.len() < (inputs as usize) {
             return Err(Refusal::ShortMemory);
         }
-        fills::cover(i, self.master_key, inputs, self.k, list);
-        self.j_max = i;
+        fills::cover(outputs, self.k, &mut list[..inputs as usize]);
+        self.j_max = layer.number;
         self.used = inputs;
         Ok(())
     }
@@ -196,7 +199,7 @@ impl ConsistentReservoir {
         if out.len() < (self.k as usize) {
             return Err(Refusal::ShortMemory);
         }
-        fills::gather(list, self.used as usize, self.n, out);
+        fills::gather(&list[..self.used as usize], self.n, out);
         Ok(())
     }
 

@@ -1,31 +1,25 @@
 // The fifteen counters of an order: read, raised, and walked by. Each is read and written by an index that is a constant, since
 // a computed one would keep the array in memory.
-ghost use Rattle.std.specs.Prelude.{◌≡◌, ◌&&◌, ℕ, ◌-◌, ◌<◌, ◌≤◌, leb, get_or, set};
-ghost use Rattle.orders.specs.Orders.{counter, counted};
+ghost use Rattle.std.specs.Prelude.{◌≡◌, ℕ, ◌-◌, ◌<◌, ◌≤◌, get_or, set};
+ghost use Rattle.layers.specs.Layer.{size};
+ghost use Rattle.orders.specs.Orders.{counter};
 ghost use Rattle.orders.specs.OrderCalls.{within};
-ghost use Rattle.orders.specs.InnerCounters.{held, raises, walk_of, stop_of};
+ghost use Rattle.orders.specs.InnerCounters.{raises, walk_of, stop_of};
 
-use crate::scans;
+use crate::layer::Layer;
 
-// The counters in a struct, which a loop can replace whole.
-#[derive(Drop)]
-pub struct Held {
-    pub counters: [u32; 15],
-}
-
-// Where a walk through a layer stopped: the next input, and the number found, 2^30 for none.
-#[derive(Drop)]
-pub struct Walked {
-    pub input: u32,
-    pub number: u32,
+// Where a walk through a layer stopped: the next input, and the number found, if one was.
+#[derive(Clone, Copy)]
+pub(crate) struct Walked {
+    pub(crate) input: u32,
+    pub(crate) number: Option<u32>,
 }
 
 // The counter of layer j.
-pub(crate) fn counter_at(cs: [u32; 15], j: u32) -> u32
-    requires { j < 15 }
-    ensures { result ≡ get_or cs j 0 }
+pub(crate) fn counter_at(cs: [u32; 15], j: Layer) -> u32
+    ensures { result ≡ get_or cs j.number 0 }
 {
-    match j {
+    match j.number {
         0 => cs[0],
         1 => cs[1],
         2 => cs[2],
@@ -44,160 +38,105 @@ pub(crate) fn counter_at(cs: [u32; 15], j: u32) -> u32
     }
 }
 
-// The counters with that of layer j set to x.
-pub(crate) fn with_counter(cs: [u32; 15], j: u32, x: u32) -> [u32; 15]
-    requires { j < 15 }
-    ensures { result ≡ set cs j x }
+// Sets the counter of layer j to x.
+pub(crate) fn set_counter(cs: &mut [u32; 15], j: Layer, x: u32)
+    ensures { cs.new ≡ set cs.old j.number x }
 {
-    let mut ds = cs;
-    match j {
-        0 => {
-            ds[0] = x;
-        }
-        1 => {
-            ds[1] = x;
-        }
-        2 => {
-            ds[2] = x;
-        }
-        3 => {
-            ds[3] = x;
-        }
-        4 => {
-            ds[4] = x;
-        }
-        5 => {
-            ds[5] = x;
-        }
-        6 => {
-            ds[6] = x;
-        }
-        7 => {
-            ds[7] = x;
-        }
-        8 => {
-            ds[8] = x;
-        }
-        9 => {
-            ds[9] = x;
-        }
-        10 => {
-            ds[10] = x;
-        }
-        11 => {
-            ds[11] = x;
-        }
-        12 => {
-            ds[12] = x;
-        }
-        13 => {
-            ds[13] = x;
-        }
-        _ => {
-            ds[14] = x;
-        }
+    match j.number {
+        0 => cs[0] = x,
+        1 => cs[1] = x,
+        2 => cs[2] = x,
+        3 => cs[3] = x,
+        4 => cs[4] = x,
+        5 => cs[5] = x,
+        6 => cs[6] = x,
+        7 => cs[7] = x,
+        8 => cs[8] = x,
+        9 => cs[9] = x,
+        10 => cs[10] = x,
+        11 => cs[11] = x,
+        12 => cs[12] = x,
+        13 => cs[13] = x,
+        _ => cs[14] = x,
     }
-    ds
 }
 
-// One more test before the others, without a branch.
-fn small_too(x: u32, size: u32, others: bool) -> bool
-    ensures { result ≡ (leb x size && others) }
-{
-    (x <= size) & others
-}
-
-// Whether no counter is above its layer's size.
+// Whether no counter is above its layer's size, by tests without a branch.
 pub(crate) fn within_sizes(cs: [u32; 15]) -> bool
     ensures { result ≡ within cs }
 {
-    let b14 = cs[14] <= 1073741824;
-    let b13 = small_too(cs[13], 268435456, b14);
-    let b12 = small_too(cs[12], 67108864, b13);
-    let b11 = small_too(cs[11], 16777216, b12);
-    let b10 = small_too(cs[10], 4194304, b11);
-    let b9 = small_too(cs[9], 1048576, b10);
-    let b8 = small_too(cs[8], 262144, b9);
-    let b7 = small_too(cs[7], 65536, b8);
-    let b6 = small_too(cs[6], 16384, b7);
-    let b5 = small_too(cs[5], 4096, b6);
-    let b4 = small_too(cs[4], 1024, b5);
-    let b3 = small_too(cs[3], 256, b4);
-    let b2 = small_too(cs[2], 64, b3);
-    let b1 = small_too(cs[1], 16, b2);
-    small_too(cs[0], 4, b1)
+    (cs[0] <= 4)
+        & (cs[1] <= 16)
+        & (cs[2] <= 64)
+        & (cs[3] <= 256)
+        & (cs[4] <= 1024)
+        & (cs[5] <= 4096)
+        & (cs[6] <= 16384)
+        & (cs[7] <= 65536)
+        & (cs[8] <= 262144)
+        & (cs[9] <= 1048576)
+        & (cs[10] <= 4194304)
+        & (cs[11] <= 16777216)
+        & (cs[12] <= 67108864)
+        & (cs[13] <= 268435456)
+        & (cs[14] <= 1073741824)
 }
 
-// The counter of layer i one higher.
-fn one_higher(h: Held, i: u32) -> Held
-    requires { (i < 15) × (counter h.counters i ≤ 1073741824) }
-    ensures { result ≡ held (counted i h.counters) }
+// Sets the counter of layer `top` to x, and makes those from `low` up to it one higher.
+pub(crate) fn raise(cs: &mut [u32; 15], low: Layer, top: Layer, x: u32)
+    requires above { low.number ≤ top.number }
+    requires room { (i : ℕ) → i < top.number → counter cs.old i ≤ 1073741824 }
+    ensures { cs.new ≡ set (raises cs.old low.number (top.number - low.number)) top.number x }
 {
-    let cs = h.counters;
-    let x = counter_at(cs, i);
-    let ds = with_counter(cs, i, x + 1);
-    Held { counters: ds }
-}
-
-// The counter of layer `top` set to x, those from `low` up to it one higher.
-pub(crate) fn raised(cs: [u32; 15], low: u32, top: u32, x: u32) -> [u32; 15]
-    requires { (low ≤ top) × (top < 15) × ((i : ℕ) → i < top → counter cs i ≤ 1073741824) }
-    ensures { result ≡ set (raises cs low (top - low)) top x }
-{
-    let mut h = Held {
-        counters: with_counter(cs, top, x),
-    };
-    let mut i = low;
-    while i < top {
-        h = one_higher(h, i);
-        i += 1;
+    set_counter(cs, top, x);
+    for number in low.number..top.number {
+        let i = Layer { number };
+        let higher = counter_at(*cs, i) + 1;
+        set_counter(cs, i, higher);
     }
-    let ds = h.counters;
-    ds
 }
 
 // Layer j from its input `from` on, up to its first output below n. More than a quarter of them are, so a record of the layer
 // would cost more than it saves.
-pub(crate) fn walk(j: u32, key: u64, n: u32, from: u32) -> Walked
-    requires { j < 15 }
-    ensures { result ≡ walk_of key j n from }
+pub(crate) fn walk(j: Layer, key: u64, n: u32, from: u32) -> Walked
+    requires { from ≤ size j.number }
+    ensures { result ≡ walk_of key j.number n from }
 {
-    let size = scans::size_of(j);
-    let mut x = from;
-    while x < size {
-        let y = scans::output_at(j, key, x);
-        x += 1;
+    let size = j.size();
+    for x in from..size {
+        let y = j.output(key, x);
         if y < n {
             return Walked {
-                input: x,
-                number: y,
+                input: x + 1,
+                number: Some(y),
             };
         }
     }
     Walked {
-        input: x,
-        number: 1073741824,
+        input: size,
+        number: None,
     }
 }
 
-// The next number of layer j, or 2^30 where the descent meets a counter at its size. No counter is raised here: the number
-// tells how far the descent went.
-pub(crate) fn stop(key: u64, j: u32, cs: [u32; 15]) -> u32
-    requires { j < 15 }
-    ensures { result ≡ stop_of key j cs }
+// The next number of layer j, none where the descent meets a counter at its size. No counter is raised here: the number tells
+// how far the descent went.
+pub(crate) fn stop(key: u64, j: Layer, cs: [u32; 15]) -> Option<u32>
+    ensures { result ≡ stop_of key j.number cs }
 {
     let x = counter_at(cs, j);
-    let size = scans::size_of(j);
-    if size <= x {
-        return 1073741824;
+    if j.size() <= x {
+        return None;
     }
-    let y = scans::output_at(j, key, x);
-    let quarter = scans::quarter_of(j);
+    let y = j.output(key, x);
+    let quarter = j.quarter();
     if quarter <= y {
-        return y;
+        return Some(y);
     }
-    if j == 0 {
-        return 0;
+    if j.number == 0 {
+        return Some(0);
     }
-    stop(key, j - 1, cs)
+    let below = Layer {
+        number: j.number - 1,
+    };
+    stop(key, below, cs)
 }

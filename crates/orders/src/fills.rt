@@ -1,24 +1,24 @@
 // Lists written in place, from the back, with no scratch.
-ghost use Rattle.std.specs.Prelude.{◌≡◌, [], ◌∷◌, ◌++◌, ◌+◌, ◌^◌, ◌<◌, ◌≤◌, length, take, drop};
+ghost use Rattle.std.specs.Prelude.{◌≡◌, ◌^◌, ◌≤◌, length};
 ghost use Rattle.lists.specs.Lists.{keep, below, count_below, written};
+ghost use Rattle.layers.specs.Layer.{size};
 ghost use Rattle.orders.specs.InnerPasses.{rank_of, laid_of, placed};
 
-use crate::scans;
+use crate::layer::Layer;
+use crate::outputs::Outputs;
 
-// The first e outputs of layer i over the list, those with top bits 00 replaced by the list's first t numbers, of which there
-// are as many.
-pub(crate) fn cover(i: u32, key: u64, e: u32, t: u32, list: &mut [u32])
-    requires { (i < 15) × (e ≤ 4 ^ (i + 1)) × (e ≤ length list.old) × (t ≡ rank_of key i e) }
-    ensures { list.new ≡ laid_of key i e list.old }
+// A layer's first outputs over the list, those with top bits 00 replaced by the list's first t numbers, of which there are as
+// many.
+pub(crate) fn cover(outputs: Outputs, t: u32, list: &mut [u32])
+    requires size { length list.old ≤ size outputs.layer.number }
+    requires rank { t ≡ rank_of outputs.key outputs.layer.number (length list.old) }
+    ensures { list.new ≡ laid_of outputs.key outputs.layer.number (length list.old) list.old }
 {
-    let f = scans::keyed_at(i, key);
-    let q = scans::quarter(f, i, key);
-    let mut p = e as usize;
+    let quarter = outputs.layer.quarter();
     let mut left = t as usize;
-    while 0 < p {
-        p -= 1;
-        let y = scans::output(f, i, key, p as u32);
-        if y < q {
+    for p in (0..list.len()).rev() {
+        let y = outputs.at(p as u32);
+        if y < quarter {
             left -= 1;
             list[p] = list[left];
         } else {
@@ -27,45 +27,34 @@ pub(crate) fn cover(i: u32, key: u64, e: u32, t: u32, list: &mut [u32])
     }
 }
 
-// P(1) over the list, or nothing.
-fn start(u: u32, list: &mut [u32])
-    requires { (u ≤ 1) × (u ≤ length list.old) }
-    ensures { list.new ≡ take u (0 ∷ []) ++ drop u list.old }
-{
-    if u == 1 {
-        list[0] = 0;
-    }
-}
-
-// The first u of P(4^m) over the list: those of P(4^(m−1)) that it has, then layer m−1 over them.
-pub(crate) fn lay(m: u32, key: u64, u: u32, list: &mut [u32])
-    requires { (m < 16) × (u ≤ 4 ^ m) × (u ≤ length list.old) }
-    ensures { list.new ≡ placed key m u list.old }
+// The first of P(4^m) over the list: those of P(4^(m−1)) that it has, then layer m−1 over them.
+pub(crate) fn lay(m: u32, key: u64, list: &mut [u32])
+    requires layer { m ≤ 15 }
+    requires size { length list.old ≤ 4 ^ m }
+    ensures { list.new ≡ placed key m (length list.old) list.old }
 {
     if m == 0 {
-        start(u, list);
+        if list.len() == 1 {
+            list[0] = 0;
+        }
         return;
     }
-    let t = scans::zeros(m - 1, key, u);
-    lay(m - 1, key, t, list);
-    cover(m - 1, key, u, t, list);
+    let outputs = Outputs::new(Layer { number: m - 1 }, key);
+    let t = outputs.zeros(list.len() as u32);
+    lay(m - 1, key, &mut list[..t as usize]);
+    cover(outputs, t, list);
 }
 
-// The numbers below n of the first `used`, in order, over another list.
-pub(crate) fn gather(list: &[u32], used: usize, n: u32, out: &mut [u32])
-    requires { (used ≤ length list.now) × (count_below n (take used list.now) ≤ length out.old) }
-    ensures { out.new ≡ written (keep (below n) (take used list.now)) out.old }
+// The listed numbers below n, in order, over another list.
+pub(crate) fn gather(list: &[u32], n: u32, out: &mut [u32])
+    requires { count_below n list.now ≤ length out.old }
+    ensures { out.new ≡ written (keep (below n) list.now) out.old }
 {
-    let mut i: usize = 0;
-    let mut t: usize = 0;
-    while i < used {
-        let x = list[i];
-        if x < n {
-            out[t] = x;
+    let mut t = 0;
+    for x in list {
+        if *x < n {
+            out[t] = *x;
             t += 1;
-            i += 1;
-        } else {
-            i += 1;
         }
     }
 }

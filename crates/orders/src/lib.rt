@@ -6,5 +6,6 @@ pub mod consistent_permutation;
 pub mod consistent_reservoir;
 mod counters;
 mod fills;
+mod layer;
+mod outputs;
 mod scans;
-mod steps;

@@ -1,40 +1,56 @@
 -- `choosers::node_map::first_active` meets its contract.
 -- Assumes nothing.
-use mathlib.Core.Path.{refl, sym, ◌∙◌}
+use mathlib.Core.Path.{◌≡◌, refl, sym, ap, ◌∙◌}
+use Prim.Native.Nat.{ℕ, ◌+◌}
 use native.Mathlib.Omega.{arith}
-use borrow.Author.Rules.{rules}
-use Rattle.choosers.specs.Choosers.{S}
+use lib.Dec.{eqb}
+use lib.ListN.{get_or, drop, length-append, length-drop}
+use lib.Seq.{length-take-le}
+use Rattle.choosers.specs.Choosers.{S, Q}
 use Rattle.choosers.proofs.OrderLaws.{Q_below}
-use Rattle.choosers.proofs.LookLaws.{look_first, look_next, look_hit, look_over}
+use Rattle.choosers.proofs.TableLaws.{reads_one}
+use Rattle.choosers.proofs.LookLaws.{one_less, stands_front, stands_whole, look_first, look_next, look_hit, look_over}
 use Rattle.choosers.proofs.node_map.first_active.Goals as goal
+use Rattle.choosers.proofs.node_map.first_active.Goals.{After-eq, After-next_number-x}
+
+-- whether the byte of the number is 1
+test : (c : After-eq) → eqb (get_or c.args.table.now c.next_number-x.result 0) 1 ≡ c.eq.result
+test c =
+    sym (c.eq.ensures ∙ reads_one c.get.result _ _ refl (c.get.ensures.lookup.4 (omega arith) 0))
 
 pub loop-k-init : goal.loop-k-init
 unfolding S
 loop-k-init c = (refl, look_first _ _ _ _, (refl, λ i p. absurd (omega arith)))
 
-pub returns-then-n-k : goal.returns-then-n-k
-returns-then-n-k c = let l = c.loop-k in look_over _ _ _ _ l.k (omega arith) l.invariant.1
+pub next_number-x-requires-clause-stands : goal.next_number-x-requires-clause-stands
+next_number-x-requires-clause-stands c = stands_front _ _ c.loop-k.k c.loop-k.scratch (omega arith) c.loop-k.invariant.2
 
-pub next_number-x-requires : goal.next_number-x-requires
-next_number-x-requires c =
-    (search rules, search rules, omega (arith, c.ranges), c.loop-k.invariant.2)
+-- the number that is looked at
+number : (c : After-next_number-x) → c.next_number-x.result ≡ get_or (Q c.args.state c.args.count) c.loop-k.k 0
+number c =
+    c.next_number-x.ensures.number ∙ ap (λ (k : ℕ). get_or (Q c.args.state c.args.count) k 0) (one_less c.loop-k.k c.loop-k.scratch (omega arith))
 
 pub overflow_cast-result : goal.overflow_cast-result
 overflow_cast-result c =
-    let a = c.args in
-    omega (arith, c.next_number-x.ensures.0, Q_below a.state a.count c.loop-k.k (search rules))
+    omega (arith, number (goal.at.overflow_cast-result c).After-next_number-x, Q_below c.args.state c.args.count c.loop-k.k (omega arith))
 
-pub returns-then-is_one : goal.returns-then-is_one
-returns-then-is_one c =
-    look_hit _ _ _ _ _ (search rules) (search rules) _ c.next_number-x.ensures.0 (sym c.is_one.ensures ∙ c.if-is_one.true) c.loop-k.invariant.1
+pub returns-then-eq : goal.returns-then-eq
+returns-then-eq c =
+    let n = number (goal.at.returns-then-eq c).After-next_number-x in
+    look_hit _ _ _ _ _ (omega arith) (omega arith) _ n (test (goal.at.returns-then-eq c).After-eq ∙ c.if-eq.true) c.loop-k.invariant.1
 
 pub loop-k-preserved : goal.loop-k-preserved
 loop-k-preserved c =
-    let v = c.loop-k.invariant in (
-      c.next_number-x.auto.scratch ∙ v.0,
-      look_next _ _ _ _ _ (search rules) (search rules) _ c.next_number-x.ensures.0 (sym c.is_one.ensures ∙ c.if-is_one.false) v.1,
-      c.next_number-x.ensures.1,
+    let v = c.loop-k.invariant in
+    let k = c.loop-k.k in
+    let l = c.loop-k.scratch in
+    let new = c.next_number-x.new.scratch in
+    let same = c.next_number-x.auto.scratch in
+    let n = number (goal.at.loop-k-preserved c).After-next_number-x in (
+      omega (arith, v.0, same, length-append new (drop (k + 1) l), length-drop (k + 1) l, length-take-le (k + 1) l (omega arith)),
+      look_next _ _ _ _ _ (omega arith) (omega arith) _ n (test (goal.at.loop-k-preserved c).After-eq ∙ c.if-eq.false) v.1,
+      stands_whole _ _ k l (omega arith) new same c.next_number-x.ensures.stands,
     )
 
 pub returns : goal.returns
-returns c = let l = c.loop-k in look_over _ _ _ _ l.k (omega arith) l.invariant.1
+returns c = look_over _ _ _ _ c.loop-k.k (omega arith) c.loop-k.invariant.1

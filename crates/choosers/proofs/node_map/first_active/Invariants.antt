@@ -1,14 +1,10 @@
 -- `choosers::node_map::first_active` meets its contract.
 -- Assumes nothing.
+use Rattle.choosers.specs.InnerPlaces.{Stands}
 use mathlib.Core.Path.{◌≡◌}
-use Prim.Native.Nat.{◌-◌}
 use lib.ListN.{length}
-use Rattle.choosers.specs.InnerLookups.{Stands}
 use Rattle.choosers.proofs.LookLaws.{Ahead}
 use Rattle.choosers.proofs.node_map.first_active.Given as goal
 
 abbrev pub invariant-loop-k : goal.invariant-loop-k
 invariant-loop-k l = (length l.scratch ≡ length l.initial.scratch) × Ahead l.state l.table l.count (length l.initial.scratch) l.k × Stands l.state l.scratch l.k l.count
-
-abbrev pub decreases-loop-k : goal.decreases-loop-k
-decreases-loop-k l = length l.scratch - l.k

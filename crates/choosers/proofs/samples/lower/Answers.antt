@@ -1,34 +1,65 @@
 -- `choosers::samples::lower` meets its contract.
 -- Assumes nothing.
-use mathlib.Core.Path.{refl, sym, ◌∙◌}
-use Prim.Native.Nat.{◌-◌}
+use mathlib.Core.Path.{◌≡◌, sym, ap, ◌∙◌}
+use mathlib.Core.List.{map}
+use Prim.Native.Nat.{◌+◌, ◌-◌, ◌<◌, ◌≤◌, max}
 use native.Mathlib.Omega.{arith}
-use borrow.Author.Rules.{rules}
-use lib.ListN.{length-set}
-use lib.Seq.{get_or-set_other}
-use Rattle.choosers.proofs.TurnLaws.{larger_within, turn_stop, turn_on, turn_end, larger_ge}
+use lib.ListN.{length, get_or, length-set}
+use Rattle.choosers.specs.Choosers.{moved}
+use Rattle.choosers.proofs.TurnLaws.{turn_stop, turn_end}
+use Rattle.choosers.proofs.HoldingLaws.{sample_at, turn_ge, turn_less, turn_own, turn_leaves}
 use Rattle.choosers.proofs.samples.lower.Goals as goal
+use Rattle.choosers.proofs.samples.lower.Goals.{Joined-i-eq0, In-loop-i, then-i-eq0, else-i-eq0}
+use Rattle.choosers.proofs.samples.lower.Given.{Over}
 
-pub loop-i-init : goal.loop-i-init
-loop-i-init c = (search rules, refl, search rules, search rules, refl, c.requires.3)
+-- what the sample becomes
+first : (g : Over) (c : Joined-i-eq0 g) → c.loop-i.i - 1 ≤ 0 → c.if-i-eq0.m ≡ c.own-v.result
+first g c h =
+    elim c.if-i-eq0.branch [
+      | then-i-eq0 w ↦ w.m-is
+      | else-i-eq0 w ↦ absurd (omega (arith, w.if-i-eq0.false))
+    ]
 
-pub returns-then-list-i : goal.returns-then-list-i
-returns-then-list-i c =
-    sym (c.loop-i.invariant.4 ∙ turn_stop c.args.state c.loop-i.i c.loop-i.list c.loop-i.m (search rules) (search rules))
+later : (g : Over) (c : Joined-i-eq0 g) → 0 < c.loop-i.i - 1 → c.if-i-eq0.m ≡ max (get_or (map g.P.Places.sample c.loop-i.list) (c.loop-i.i - 1 - 1) 0) c.own-v.result
+later g c h =
+    elim c.if-i-eq0.branch [
+      | then-i-eq0 w ↦ absurd (omega (arith, w.if-i-eq0.true))
+      | else-i-eq0 w ↦ omega (arith, w.m-is, w.max-m.ensures, w.sample-else-i-eq0.ensures, sample_at g.P.Places.sample c.loop-i.list (c.loop-i.i - 1 - 1) (omega arith))
+    ]
+
+-- the sample that a turn looks at
+seen : (g : Over) (c : In-loop-i g) → get_or (map g.P.Places.sample c.loop-i.list) (c.loop-i.i - 1) 0 ≡ g.P.Places.sample (get_or c.loop-i.list (c.loop-i.i - 1) 0)
+seen g c = sample_at g.P.Places.sample c.loop-i.list (c.loop-i.i - 1) (omega arith)
+
+pub returns-then-sample-m-clause-lowered : goal.returns-then-sample-m-clause-lowered
+returns-then-sample-m-clause-lowered g c =
+    let l = c.loop-i in
+    let s = seen g (goal.at.returns-then-sample-m-clause-lowered g c).In-loop-i in
+    let e : l.i - 1 + 1 ≡ l.i = omega arith in
+    ap (moved (map g.P.Places.sample l.list)) e
+    ∙ sym (l.invariant.2 ∙ turn_stop c.args.state l.i (map g.P.Places.sample l.list) l.m (omega arith) (omega (arith, s, c.sample.ensures)))
+
+pub place-requires : goal.place-requires
+place-requires g c =
+    let l = c.loop-i in
+    let v = l.invariant in
+    let f = g.P.Places.sample in
+    let ge = turn_ge f g.P.Places.keeps c.args.state l.list l.i l.m c.own-v.result c.if-i-eq0.m (omega arith) v.0 c.own-v.ensures (first g c) (later g c) in
+    let less = turn_less f g.P.Places.keeps c.args.state l.list l.i l.m c.own-v.result c.if-i-eq0.m (omega arith) v.0 c.own-v.ensures (first g c) (later g c) v.5 in
+    (ge, omega arith)
 
 pub loop-i-preserved : goal.loop-i-preserved
-loop-i-preserved c =
-    let a = c.args in
+loop-i-preserved g c =
     let l = c.loop-i in
-    let e = c.larger_at-m.ensures in (
-      omega arith,
-      length-set l.list (l.i - 1) c.larger_at-m.result ∙ l.invariant.1,
-      rw e (larger_ge a.state l.list (l.i - 1) l.m),
-      rw e (larger_within a.state l.list l.i l.m (search rules) (search rules) (search rules) l.invariant.5),
-      l.invariant.4 ∙ turn_on a.state l.i l.list l.m (search rules) (search rules) ∙ rw e,
-      λ j p. rw (get_or-set_other l.list (l.i - 1) j c.larger_at-m.result 0 (λ q. omega (arith, q))) (l.invariant.5 j (omega arith)),
-    )
+    let v = l.invariant in
+    let p = g.P.Places in
+    let j = (goal.at.loop-i-preserved g c).Joined-i-eq0 in
+    let s = seen g (goal.at.loop-i-preserved g c).In-loop-i in
+    let k = c.place.ensures.keeps c.args.state (l.i - 1) (turn_own p.sample p.keeps c.args.state l.list l.i l.m c.own-v.result c.if-i-eq0.m (omega arith) v.0 c.own-v.ensures (first g j) (later g j) v.5) in
+    let w = turn_leaves p.sample p.keeps c.args.state l.list l.i l.m c.own-v.result c.if-i-eq0.m (omega arith) v.0 c.own-v.ensures (first g j) (later g j) (length l.list) c.place.result
+    (omega arith) (omega arith) (omega (arith, s, c.sample.ensures)) c.place.ensures.sample k v.3 v.4 v.5 in
+    (w.0, omega (arith, w.1), v.2 ∙ w.2, λ i h. w.3 i (omega (arith, h, length-set l.list (l.i - 1) c.place.result)), w.4, w.5)
 
-pub returns : goal.returns
-returns c =
-    sym (c.loop-i.invariant.4 ∙ turn_end c.args.state c.loop-i.i c.loop-i.list c.loop-i.m (search rules))
+pub returns-clause-lowered : goal.returns-clause-lowered
+returns-clause-lowered g c =
+    sym (c.loop-i.invariant.2 ∙ turn_end c.args.state c.loop-i.i (map g.P.Places.sample c.loop-i.list) c.loop-i.m (omega arith))

@@ -1,14 +1,16 @@
 -- `choosers::samples::lower` meets its contract.
 -- Assumes nothing.
 use mathlib.Core.Path.{◌≡◌}
-use Prim.Native.Nat.{◌≤◌, ◌^◌}
+use mathlib.Core.List.{map}
+use Prim.Native.Nat.{◌≤◌}
 use lib.ListN.{length}
 use Rattle.choosers.specs.Choosers.{lower_at}
-use Rattle.choosers.specs.InnerChoosers.{Within}
+use Rattle.choosers.specs.InnerPlaces.{Kept, Rises, Under}
 use Rattle.choosers.proofs.samples.lower.Given as goal
 
 abbrev pub invariant-loop-i : goal.invariant-loop-i
-invariant-loop-i l = (l.i ≤ l.k) × (length l.list ≡ length l.initial.list) × (l.i ≤ l.m) × (l.m ≤ 2 ^ 62) × (lower_at l.state l.k l.initial.list l.from ≡ lower_at l.state l.i l.list l.m) × Within l.list l.i
-
-abbrev pub decreases-loop-i : goal.decreases-loop-i
-decreases-loop-i l = l.i
+invariant-loop-i g l =
+    let p = g.P.Places in
+    (l.i ≤ l.m) × (l.m ≤ p.limit)
+    × (lower_at l.state (length l.initial.list) (map p.sample l.initial.list) l.from ≡ lower_at l.state l.i (map p.sample l.list) l.m)
+    × Kept p.keeps l.state l.list (length l.list) × Rises (map p.sample l.list) l.i × Under (map p.sample l.list) l.i l.m

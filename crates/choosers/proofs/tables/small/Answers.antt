@@ -1,20 +1,10 @@
 -- `choosers::tables::small` meets its contract.
 -- Assumes nothing.
-use mathlib.Core.Path.{◌≡◌, sym}
-use native.Mathlib.Omega.{arith}
-use borrow.Author.Rules.{rules}
 use Rattle.choosers.proofs.TableLaws.{small_none, small_turn}
 use Rattle.choosers.proofs.tables.small.Goals as goal
 
-pub loop-i-init : goal.loop-i-init
-loop-i-init c = (search rules, small_none c.args.table.now)
+pub loop-byte-init : goal.loop-byte-init
+loop-byte-init c = small_none
 
-pub loop-i-preserved : goal.loop-i-preserved
-loop-i-preserved c =
-    let a = c.args in
-    (search rules, small_turn a.table.now c.loop-i.i c.loop-i.high c.larger_of-high.result (search rules) c.larger_of-high.ensures c.loop-i.invariant.1)
-
-pub returns : goal.returns
-returns c =
-    let e : c.loop-i.i ≡ c.args.c = omega arith in
-    sym (rw e at c.loop-i.invariant.1)
+pub loop-byte-preserved : goal.loop-byte-preserved
+loop-byte-preserved c = small_turn _ _ _ _ c.loop-byte-test.true c.max-high.ensures c.loop-byte.invariant

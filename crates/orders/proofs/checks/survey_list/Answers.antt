@@ -1,28 +1,27 @@
 -- `orders::checks::survey_list` meets its contract.
 -- Assumes nothing.
-use mathlib.Core.Path.{refl}
+use mathlib.Core.Path.{◌≡◌, refl}
+use mathlib.Core.Bool.{cond}
+use Prim.Native.Nat.{◌+◌, min}
 use native.Mathlib.Omega.{arith}
+use borrow.Author.Rules.{rules}
+use lib.Dec.{ltb}
 use lib.ListN.{get_or}
-use Rattle.orders.proofs.SurveyLaws.{survey_near, survey_turn, survey_done, step_le, closer_le}
+use Rattle.orders.proofs.ScanLaws.{more_is, test_le}
+use Rattle.orders.proofs.SurveyLaws.{survey_near, survey_turn, closer_is, closer_le}
 use Rattle.orders.proofs.checks.survey_list.Goals as goal
 
-pub loop-i-init : goal.loop-i-init
-loop-i-init c =
-    let p = c.requires in
-    (omega arith, p.0, omega arith, omega arith, survey_near _ _ p.2)
+pub loop-x-init : goal.loop-x-init
+loop-x-init c = (omega arith, omega (arith, c.requires.limit), survey_near _ _ c.requires.limit)
 
-pub more-count-requires : goal.more-count-requires
-more-count-requires c = omega (arith, c.requires.1)
-
-pub loop-i-preserved : goal.loop-i-preserved
-loop-i-preserved c =
-    let l = c.loop-i in
-    let a = c.args in
+pub loop-x-preserved : goal.loop-x-preserved
+loop-x-preserved c =
+    let l = c.loop-x in
     let v = l.invariant in
-    let x = get_or a.list.now l.i 0 in
-    (omega arith, v.1, step_le x _ _ _ _ v.2 c.more-count.ensures, closer_le x _ _ _ v.3 c.closer-near.ensures, survey_turn a.list.now _ _ l.i _ _ _ _ _ _ v.1 (omega arith) c.more-count.ensures c.closer-near.ensures refl v.4)
-
-pub returns : goal.returns
-returns c =
-    let v = c.loop-i.invariant in
-    survey_done c.args.list.now _ _ c.loop-i.i _ _ _ v.1 (omega arith) v.4
+    let n = c.args.n in
+    let x = get_or c.args.list.now l.x-index 0 in
+    let count : l.count + c.from-count.result ≡ cond (ltb x n) (l.count + 1) l.count =
+    rw c.from-count.ensures (more_is (ltb x n) l.count) in
+    let low : c.min-near.result + n ≡ cond (ltb x n) (l.near + n) (min x (l.near + n)) =
+    closer_is x n l.near _ _ (search rules) v.1 refl c.min-near.ensures in
+    (omega (arith, c.from-count.ensures, test_le (ltb x n)), closer_le x _ _ _ v.1 low, survey_turn c.args.list.now _ l.x-index _ _ _ _ _ _ c.loop-x-test.true count low refl v.2)

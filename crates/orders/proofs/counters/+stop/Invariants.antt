@@ -3,4 +3,4 @@
 use Rattle.orders.proofs.counters.+stop.Given as goal
 
 abbrev pub decreases-stop : goal.decreases-stop
-decreases-stop l = l.j
+decreases-stop l = l.j.number

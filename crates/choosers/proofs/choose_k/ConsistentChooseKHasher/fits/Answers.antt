@@ -1,16 +1,12 @@
 -- `choosers::choose_k::ConsistentChooseKHasher::fits` meets its contract.
 -- Assumes nothing.
 use mathlib.Core.Path.{sym, ◌∙◌}
-use borrow.Author.Rules.{rules}
-use Rattle.choosers.proofs.CheckLaws.{fits_long, fits_short}
+use borrow.Author.Tests.{lt-leb}
+use Rattle.choosers.proofs.CheckLaws.{fits_rising, fits_short}
 use Rattle.choosers.proofs.choose_k.ConsistentChooseKHasher.fits.Goals as goal
 
-pub returns-then-list-self : goal.returns-then-list-self
-returns-then-list-self c =
-    let a = c.args in
-    sym (fits_short a.self a.list.now c.if-list-self.true)
+pub returns-then-self-list : goal.returns-then-self-list
+returns-then-self-list c = c.rising.ensures ∙ sym (fits_rising _ _ c.if-self-list.true)
 
-pub returns : goal.returns
-returns c =
-    let a = c.args in
-    c.rising.ensures ∙ sym (fits_long a.self a.list.now (search rules))
+pub returns-else-self-list : goal.returns-else-self-list
+returns-else-self-list c = lt-leb _ _ c.if-self-list.false ∙ sym (fits_short _ _ c.if-self-list.false)

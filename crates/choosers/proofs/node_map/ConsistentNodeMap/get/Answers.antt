@@ -1,52 +1,58 @@
 -- `choosers::node_map::ConsistentNodeMap::get` meets its contract.
 -- Assumes nothing.
+use Rattle.std.proofs.lemmas.Result.{err_from_is_err_and}
 use mathlib.Core.Path.{◌≡◌, refl, sym, ap, ◌∙◌}
-use mathlib.Core.Bool.{true}
+use mathlib.Core.Bool.{true, not}
 use Prim.Native.Nat.{◌≤◌, min}
 use native.Mathlib.Omega.{arith}
+use lib.Dec.{eqb}
 use lib.ListN.{length}
 use Rattle.answers.specs.Refusals.{told}
+use Rattle.choosers.specs.Slots.{actives}
 use Rattle.choosers.specs.SlotCalls.{slot_limit, fitting}
+use Rattle.choosers.proofs.TableLaws.{some_active}
 use Rattle.choosers.proofs.SlotCallLaws.{fits_parts}
 use Rattle.choosers.proofs.GetLaws.{get_unfit, get_short, get_none, get_looked, scratch_looked}
 use Rattle.choosers.proofs.node_map.ConsistentNodeMap.get.Goals as goal
-use Rattle.choosers.proofs.node_map.ConsistentNodeMap.get.Goals.{Else-not-fits, Else-scratch-places}
+use Rattle.choosers.proofs.node_map.ConsistentNodeMap.get.Goals.{After-any}
 
-ok : (c : Else-not-fits) → fitting c.args.self c.args.table.now ≡ true
-ok c = sym c.fits.ensures ∙ c.if-not-fits.false
+module _ (c : After-any) where
+  fit : fitting c.args.self c.args.table.now ≡ true
+  fit = sym c.in_ok-slots.ensures.fits
 
--- the scratch is long enough
-enough : (c : Else-scratch-places) → min (length c.args.table.now) slot_limit ≤ length c.args.scratch.now
-enough c = omega (arith, c.places.ensures)
+  -- the scratch is long enough
+  enough : min (length c.args.table.now) slot_limit ≤ length c.args.scratch.now
+  enough = omega (arith, c.scratch_places.ensures)
 
-pub returns-then-not-fits : goal.returns-then-not-fits
-returns-then-not-fits c = record {
-  answer = sym (get_unfit _ _ _ _ (sym c.fits.ensures ∙ c.if-not-fits.true));
+  -- whether one is active
+  one : c.any.result ≡ not (eqb (length (actives c.args.table.now c.args.self.total)) 0)
+  one = some_active _ _ _ c.in_ok-slots.ensures.bytes (fits_parts _ _ fit).count_le _ c.any.ensures
+
+pub returns-in_err-slots : goal.returns-in_err-slots
+returns-in_err-slots c =
+    let e = err_from_is_err_and c.from_residual.result c.from_residual.ensures.1 in
+    let u = c.in_err-slots.ensures in
+    rw (e.1, e.2, u.misfit) (record { answer = sym (get_unfit _ _ _ _ (sym u.fits)); scratch_after = refl })
+
+pub returns-then-scratch-scratch_places : goal.returns-then-scratch-scratch_places
+returns-then-scratch-scratch_places c = record {
+  answer = sym (get_short _ _ _ _ (sym c.in_ok-slots.ensures.fits) (omega (arith, c.scratch_places.ensures)));
   scratch_after = refl;
 }
-
-pub returns-then-scratch-places : goal.returns-then-scratch-places
-returns-then-scratch-places c = record {
-  answer = sym (get_short _ _ _ _ (ok (goal.at.returns-then-scratch-places c).Else-not-fits) (omega (arith, c.places.ensures)));
-  scratch_after = refl;
-}
-
-pub any-requires : goal.any-requires
-any-requires c = (fits_parts _ _ (ok (goal.at.any-requires c).Else-not-fits)).count_le
 
 pub returns-then-not-any : goal.returns-then-not-any
 returns-then-not-any c =
+    let a = (goal.at.returns-then-not-any c).After-any in
     record {
-      answer = sym (get_none _ _ _ _ (ok (goal.at.returns-then-not-any c).Else-not-fits) (enough (goal.at.returns-then-not-any c).Else-scratch-places) (sym (c.if-not-any.true) ∙ c.any.ensures));
+      answer = sym (get_none _ _ _ _ (fit a) (enough a) (sym c.if-not-any.true ∙ one a));
       scratch_after = refl;
     }
 
 pub returns : goal.returns
 returns c =
-    let fit = ok (goal.at.returns c).Else-not-fits in
-    let long = enough (goal.at.returns c).Else-scratch-places in
+    let a = (goal.at.returns c).After-any in
     record {
-      answer = ap told c.ok_or.ensures.value ∙ get_looked _ _ _ _ fit long _ c.first_active.ensures;
+      answer = ap told c.ok_or.ensures.value ∙ get_looked _ _ _ _ (fit a) (enough a) _ c.first_active.ensures;
       -- one is active, so it is found
-      scratch_after = scratch_looked _ _ _ _ fit long (sym (c.if-not-any.false) ∙ c.any.ensures) _ c.first_active.ensures _ c.ok_or.ensures.value _ _ c.first_active.auto.scratch;
+      scratch_after = scratch_looked _ _ _ _ (fit a) (enough a) (sym c.if-not-any.false ∙ one a) _ c.first_active.ensures _ c.ok_or.ensures.value _ _ c.first_active.auto.scratch;
     }

@@ -1,22 +1,24 @@
 -- `choosers::node_map::ConsistentNodeMap::is_active` meets its contract.
 -- Assumes nothing.
-use mathlib.Core.Path.{◌≡◌, sym, ap, ◌∙◌}
-use mathlib.Core.Bool.{true}
+use Rattle.std.proofs.lemmas.Result.{err_from_is_err_and}
+use mathlib.Core.Path.{◌≡◌, refl, sym, ap, ◌∙◌}
+use native.Mathlib.Omega.{arith}
 use Rattle.lists.specs.Told.{says}
-use Rattle.choosers.specs.SlotCalls.{fitting}
-use Rattle.choosers.proofs.TableLaws.{active_over, active_byte}
-use Rattle.choosers.proofs.SlotCallLaws.{query_unfit, query_fit}
+use Rattle.choosers.specs.Slots.{active}
+use Rattle.choosers.proofs.TableLaws.{reads_one, slot_active}
+use Rattle.choosers.proofs.SlotCallLaws.{small_parts, query_unfit, query_fit}
 use Rattle.choosers.proofs.node_map.ConsistentNodeMap.is_active.Goals as goal
-use Rattle.choosers.proofs.node_map.ConsistentNodeMap.is_active.Goals.{Else-not-fits}
 
-ok : (c : Else-not-fits) → fitting c.args.self c.args.table.now ≡ true
-ok c = sym c.fits.ensures ∙ c.if-not-fits.false
-
-pub returns-then-not-fits : goal.returns-then-not-fits
-returns-then-not-fits c = sym (query_unfit _ _ _ (sym c.fits.ensures ∙ c.if-not-fits.true))
-
-pub returns-then-self-slot : goal.returns-then-self-slot
-returns-then-self-slot c = ap says (sym (active_over _ _ _ c.if-self-slot.true)) ∙ sym (query_fit _ _ _ (ok (goal.at.returns-then-self-slot c).Else-not-fits))
+pub returns-in_err-slots : goal.returns-in_err-slots
+returns-in_err-slots c =
+    let e = err_from_is_err_and c.from_residual.result c.from_residual.ensures.1 in
+    let u = c.in_err-slots.ensures in
+    rw (e.1, e.2, u.misfit) (sym (query_unfit _ _ _ (sym u.fits)))
 
 pub returns : goal.returns
-returns c = ap says (c.is_one.ensures ∙ sym (active_byte _ _ _ c.if-self-slot.false)) ∙ sym (query_fit _ _ _ (ok (goal.at.returns c).Else-not-fits))
+returns c =
+    let u = c.in_ok-slots.ensures in
+    let read = c.get.ensures.lookup.4 (omega arith) 0 in
+    let one : c.eq.result ≡ active c.args.table.now c.args.self.total c.args.slot
+    = c.eq.ensures ∙ reads_one c.get.result _ _ refl read ∙ sym (slot_active _ _ _ u.bytes (small_parts _ _ (sym u.fits)).0 c.args.slot) in
+    ap says one ∙ sym (query_fit _ _ _ (sym u.fits))

@@ -1,21 +1,21 @@
 -- `choosers::node_map::ConsistentNodeMap::is_empty` meets its contract.
 -- Assumes nothing.
-use mathlib.Core.Path.{◌≡◌, sym, ap, ◌∙◌}
-use mathlib.Core.Bool.{Bool, true, not, not-not}
+use Rattle.std.proofs.lemmas.Result.{err_from_is_err_and}
+use mathlib.Core.Path.{sym, ap, ◌∙◌}
+use mathlib.Core.Bool.{Bool, not, not-not}
 use Rattle.lists.specs.Told.{says}
-use Rattle.choosers.specs.SlotCalls.{fitting}
-use Rattle.choosers.proofs.SlotCallLaws.{fits_parts, query_unfit, query_fit}
+use Rattle.choosers.proofs.TableLaws.{some_active}
+use Rattle.choosers.proofs.SlotCallLaws.{small_parts, query_unfit, query_fit}
 use Rattle.choosers.proofs.node_map.ConsistentNodeMap.is_empty.Goals as goal
-use Rattle.choosers.proofs.node_map.ConsistentNodeMap.is_empty.Goals.{Else-not-fits}
 
-ok : (c : Else-not-fits) → fitting c.args.self c.args.table.now ≡ true
-ok c = sym c.fits.ensures ∙ c.if-not-fits.false
-
-pub returns-then-not-fits : goal.returns-then-not-fits
-returns-then-not-fits c = sym (query_unfit _ _ _ (sym c.fits.ensures ∙ c.if-not-fits.true))
-
-pub any-requires : goal.any-requires
-any-requires c = (fits_parts _ _ (ok (goal.at.any-requires c).Else-not-fits)).count_le
+pub returns-in_err-slots : goal.returns-in_err-slots
+returns-in_err-slots c =
+    let e = err_from_is_err_and c.from_residual.result c.from_residual.ensures.1 in
+    let u = c.in_err-slots.ensures in
+    rw (e.1, e.2, u.misfit) (sym (query_unfit _ _ _ (sym u.fits)))
 
 pub returns : goal.returns
-returns c = ap (λ (b : Bool). says (not b)) c.any.ensures ∙ ap says (not-not _) ∙ sym (query_fit _ _ _ (ok (goal.at.returns c).Else-not-fits))
+returns c =
+    let u = c.in_ok-slots.ensures in
+    ap (λ (b : Bool). says (not b)) (some_active _ _ _ u.bytes (small_parts _ _ (sym u.fits)).0 _ c.any.ensures)
+    ∙ ap says (not-not _) ∙ sym (query_fit _ _ _ (sym u.fits))

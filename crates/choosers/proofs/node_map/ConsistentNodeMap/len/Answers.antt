@@ -1,23 +1,33 @@
 -- `choosers::node_map::ConsistentNodeMap::len` meets its contract.
 -- Assumes nothing.
-use mathlib.Core.Path.{◌≡◌, sym, ap, ◌∙◌}
-use mathlib.Core.Bool.{true}
+use Rattle.std.proofs.lemmas.Result.{err_from_is_err_and}
+use mathlib.Core.Path.{sym, ap, ◌∙◌}
+use native.Mathlib.Omega.{arith}
+use lib.ListN.{length}
+use lib.Seq.{length-take-le}
 use Rattle.lists.specs.Told.{says}
-use Rattle.choosers.specs.SlotCalls.{fitting}
+use Rattle.lists.specs.Lists.{every}
+use Rattle.choosers.specs.SlotCalls.{at_most_one}
+use Rattle.choosers.proofs.TableLaws.{actives_front}
 use Rattle.choosers.proofs.SlotCallLaws.{small_parts, query_unfit, query_fit}
 use Rattle.choosers.proofs.node_map.ConsistentNodeMap.len.Goals as goal
-use Rattle.choosers.proofs.node_map.ConsistentNodeMap.len.Goals.{Else-not-fits}
 
-ok : (c : Else-not-fits) → fitting c.args.self c.args.table.now ≡ true
-ok c = sym c.fits.ensures ∙ c.if-not-fits.false
-
-pub returns-then-not-fits : goal.returns-then-not-fits
-returns-then-not-fits c = sym (query_unfit _ _ _ (sym c.fits.ensures ∙ c.if-not-fits.true))
+pub returns-in_err-slots : goal.returns-in_err-slots
+returns-in_err-slots c =
+    let e = err_from_is_err_and c.from_residual.result c.from_residual.ensures.1 in
+    let u = c.in_err-slots.ensures in
+    rw (e.1, e.2, u.misfit) (sym (query_unfit _ _ _ (sym u.fits)))
 
 pub sum-requires : goal.sum-requires
 sum-requires c =
-    let p = small_parts _ _ (ok (goal.at.sum-requires c).Else-not-fits) in
-    (p.0, p.2)
+    let u = c.in_ok-slots.ensures in
+    let p = small_parts _ _ (sym u.fits) in
+    record {
+      small = ap (every at_most_one) u.bytes ∙ p.2;
+      few = omega (arith, p.1, ap length u.bytes, length-take-le c.args.self.total c.args.table.now p.0);
+    }
 
 pub returns : goal.returns
-returns c = ap says c.sum.ensures ∙ sym (query_fit _ _ _ (ok (goal.at.returns c).Else-not-fits))
+returns c =
+    let u = c.in_ok-slots.ensures in
+    ap says (c.sum.ensures ∙ ap length (actives_front _ _ _ u.bytes (small_parts _ _ (sym u.fits)).0)) ∙ sym (query_fit _ _ _ (sym u.fits))

@@ -1,39 +1,45 @@
 -- `choosers::node_map::ConsistentNodeMap::remove` meets its contract.
 -- Assumes nothing.
-use mathlib.Core.Path.{◌≡◌, sym, ◌∙◌}
-use mathlib.Core.Bool.{true}
+use Rattle.std.proofs.lemmas.Result.{err_from_is_err_and}
+use mathlib.Core.Path.{◌≡◌, refl, sym, ap, ◌∙◌}
+use mathlib.Core.Bool.{true, not, not-not}
 use native.Mathlib.Omega.{arith}
-use Rattle.choosers.specs.SlotCalls.{fitting}
-use Rattle.choosers.proofs.TableLaws.{active_over, active_no, active_yes}
-use Rattle.choosers.proofs.SlotCallLaws.{fits_parts, remove_unfit, remove_none, remove_last, remove_other}
+use Rattle.choosers.specs.Slots.{active}
+use Rattle.choosers.proofs.TableLaws.{active→, reads_one, slot_active}
+use Rattle.choosers.proofs.SlotCallLaws.{small_parts, remove_unfit, remove_none, remove_last, remove_other}
 use Rattle.choosers.proofs.node_map.ConsistentNodeMap.remove.Goals as goal
-use Rattle.choosers.proofs.node_map.ConsistentNodeMap.remove.Goals.{Else-not-fits, then-c-slot-via-then-c-slot, then-c-slot-via-else-c-slot+then-table-x-ne1}
+use Rattle.choosers.proofs.node_map.ConsistentNodeMap.remove.Goals.{After-ne, Else-ne}
 
-ok : (c : Else-not-fits) → fitting c.args.self.now c.args.table.now ≡ true
-ok c = sym c.fits.ensures ∙ c.if-not-fits.false
+pub returns-in_err-slots : goal.returns-in_err-slots
+returns-in_err-slots c =
+    let e = err_from_is_err_and c.from_residual.result c.from_residual.ensures.1 in
+    let u = c.in_err-slots.ensures in
+    rw (e.1, e.2, u.misfit) (sym (remove_unfit _ _ _ (sym u.fits)))
 
-pub returns-then-not-fits : goal.returns-then-not-fits
-returns-then-not-fits c = sym (remove_unfit _ _ _ (sym c.fits.ensures ∙ c.if-not-fits.true))
+-- whether the slot is active
+test : (c : After-ne) → active c.args.table.now c.args.self.now.total c.args.slot ≡ not c.ne.result
+test c =
+    let u = c.in_ok-slots.ensures in
+    let read = c.get.ensures.lookup.4 (omega arith) 0 in
+    slot_active _ _ _ u.bytes (small_parts _ _ (sym u.fits)).0 c.args.slot ∙ sym (reads_one c.get.result _ _ refl read) ∙ sym (not-not _) ∙ sym (ap not c.ne.ensures)
 
-pub bounds-table-x : goal.bounds-table-x
-bounds-table-x c = omega (arith, (fits_parts _ _ (ok (goal.at.bounds-table-x c).Else-not-fits)).count_le)
+stands : (c : Else-ne) → active c.args.table.now c.args.self.now.total c.args.slot ≡ true
+stands c = test (goal.at.Else-ne c).After-ne ∙ ap not c.if-ne.false
 
-pub returns-then-c-slot : goal.returns-then-c-slot
-returns-then-c-slot c =
-    let fit = ok (goal.at.returns-then-c-slot c).Else-not-fits in
-    elim c.then-c-slot.branch [
-      | then-c-slot-via-then-c-slot w ↦ sym (remove_none _ _ _ fit (active_over _ _ _ w.if-c-slot.true))
-      | then-c-slot-via-else-c-slot+then-table-x-ne1 w ↦ sym (remove_none _ _ _ fit (active_no _ _ _ w.if-table-x-ne1.true))
-    ]
+pub returns-then-ne : goal.returns-then-ne
+returns-then-ne c =
+    let e = test (goal.at.returns-then-ne c).After-ne in
+    sym (remove_none _ _ _ (sym c.in_ok-slots.ensures.fits) (e ∙ ap not c.if-ne.true))
 
-pub returns-then-slot-c : goal.returns-then-slot-c
-returns-then-slot-c c =
-    sym (remove_last _ _ _ (ok (goal.at.returns-then-slot-c c).Else-not-fits) (active_yes _ _ _ c.if-c-slot.false c.if-table-x-ne1.false) c.if-slot-c.true)
+pub overflow_add-slot : goal.overflow_add-slot
+overflow_add-slot c =
+    let e = stands (goal.at.overflow_add-slot c).Else-ne in
+    omega (arith, (active→ _ _ _ e).0, (small_parts _ _ (sym c.in_ok-slots.ensures.fits)).1)
 
-pub bounds-table-x-else-slot-c : goal.bounds-table-x-else-slot-c
-bounds-table-x-else-slot-c c =
-    omega (arith, (fits_parts _ _ (ok (goal.at.bounds-table-x-else-slot-c c).Else-not-fits)).count_le)
+pub returns-then-slot-self : goal.returns-then-slot-self
+returns-then-slot-self c =
+    sym (remove_last _ _ _ (sym c.in_ok-slots.ensures.fits) (stands (goal.at.returns-then-slot-self c).Else-ne) c.if-slot-self.true)
 
-pub returns-else-slot-c : goal.returns-else-slot-c
-returns-else-slot-c c =
-    sym (remove_other _ _ _ (ok (goal.at.returns-else-slot-c c).Else-not-fits) (active_yes _ _ _ c.if-c-slot.false c.if-table-x-ne1.false) c.if-slot-c.false)
+pub returns-else-slot-self : goal.returns-else-slot-self
+returns-else-slot-self c =
+    sym (remove_other _ _ _ (sym c.in_ok-slots.ensures.fits) (stands (goal.at.returns-else-slot-self c).Else-ne) c.if-slot-self.false)

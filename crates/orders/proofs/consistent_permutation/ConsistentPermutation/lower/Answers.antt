@@ -8,21 +8,29 @@ use native.Mathlib.Omega.{arith}
 use Rattle.lists.specs.Told.{says}
 use Rattle.orders.specs.OrderCalls.{order_of, key_of, step}
 use Rattle.orders.proofs.CounterLaws.{within_limit}
-use Rattle.orders.proofs.NextLaws.{lower_met, lower_low, lower_gave}
+use Rattle.orders.proofs.NextLaws.{lower_met, lower_room, lower_low, lower_gave}
 use Rattle.orders.proofs.consistent_permutation.ConsistentPermutation.lower.Goals as goal
 
-pub returns-then-y-ge1073741824 : goal.returns-then-y-ge1073741824
-returns-then-y-ge1073741824 c =
-    let a = c.args in
-    sym (lower_met a.self.now (a.top - 1) a.x _ (omega arith) c.stop-y.ensures c.if-y-ge1073741824.true)
+pub returns-in_default : goal.returns-in_default
+returns-in_default c = sym (lower_met c.args.self.now (c.args.top.number - 1) c.args.x c.in_default.ensures)
 
-pub raised-self-requires : goal.raised-self-requires
-raised-self-requires c =
-    (omega (arith, lower_low c.args.self.now (c.args.top - 1) _ _ c.stop-y.ensures c.if-y-ge1073741824.false c.layer_of-low.ensures), omega arith, λ i h. within_limit _ c.requires.fit i (omega arith))
+pub overflow_add-y : goal.overflow_add-y
+overflow_add-y c =
+    omega (arith, lower_room c.args.self.now (c.args.top.number - 1) _ (omega arith) c.in-Some.ensures)
+
+pub of-requires : goal.of-requires
+of-requires c = lower_room c.args.self.now (c.args.top.number - 1) _ (omega arith) c.in-Some.ensures
+
+pub raise-requires-clause-above : goal.raise-requires-clause-above
+raise-requires-clause-above c =
+    omega (arith, lower_low c.args.self.now (c.args.top.number - 1) _ _ c.in-Some.ensures c.of.ensures)
+
+pub raise-requires-clause-room : goal.raise-requires-clause-room
+raise-requires-clause-room c = λ i h. within_limit _ c.requires.fit i (omega arith)
 
 pub returns : goal.returns
 returns c =
     let a = c.args in
     let o = a.self.now in
-    ap (λ (ds : List ℕ). step (says (some c.stop-y.result)) (order_of (key_of o) o.n ds)) c.raised-self.ensures
-    ∙ sym (lower_gave o a.top a.x _ _ c.requires.above c.stop-y.ensures c.if-y-ge1073741824.false c.layer_of-low.ensures)
+    ap (λ (ds : List ℕ). step (says (some c.in-Some.y)) (order_of (key_of o) o.n ds)) c.raise.ensures
+    ∙ sym (lower_gave o a.top.number a.x _ _ c.requires.above c.in-Some.ensures c.of.ensures)

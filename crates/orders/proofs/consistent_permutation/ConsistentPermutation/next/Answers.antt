@@ -2,9 +2,7 @@
 -- Assumes nothing.
 use mathlib.Core.Path.{◌≡◌, sym, ◌∙◌}
 use mathlib.Core.Bool.{true}
-use native.Mathlib.Omega.{arith}
 use Rattle.orders.specs.OrderCalls.{within}
-use Rattle.orders.proofs.LogLaws.{layer_in}
 use Rattle.orders.proofs.NextLaws.{next_unfit, next_above, next_empty, next_first}
 use Rattle.orders.proofs.consistent_permutation.ConsistentPermutation.next.Goals as goal
 use Rattle.orders.proofs.consistent_permutation.ConsistentPermutation.next.Goals.{Else-not-fits}
@@ -22,15 +20,9 @@ returns-then-self-gt-N_LIMIT c = sym (next_above c.args.self.now (fit (goal.at.r
 pub returns-then-self-eq0 : goal.returns-then-self-eq0
 returns-then-self-eq0 c = sym (next_empty c.args.self.now (fit (goal.at.returns-then-self-eq0 c).Else-not-fits) c.if-self-eq0.true)
 
-pub first-requires : goal.first-requires
-first-requires c = record {
-  layer = c.layer_of.ensures;
-  low = omega (arith, layer_in c.args.self.now.n c.if-self-gt-N_LIMIT.false, c.layer_of.ensures);
-  some = omega arith;
-  limit = omega arith;
-  fit = fit (goal.at.first-requires c).Else-not-fits;
-}
+pub first-requires-clause-fit : goal.first-requires-clause-fit
+first-requires-clause-fit c = fit (goal.at.first-requires-clause-fit c).Else-not-fits
 
 pub returns : goal.returns
 returns c =
-    c.first.ensures ∙ sym (next_first c.args.self.now _ (fit (goal.at.returns c).Else-not-fits) c.if-self-gt-N_LIMIT.false c.if-self-eq0.false c.layer_of.ensures)
+    c.first.ensures ∙ sym (next_first c.args.self.now _ (fit (goal.at.returns c).Else-not-fits) c.if-self-gt-N_LIMIT.false c.if-self-eq0.false c.of.ensures)

@@ -21,10 +21,12 @@ returns-then-self c = grow_seven _ _ (ok (goal.at.returns-then-self c).Else-not-
 pub returns-then-self-eq-LAYER_LIMIT : goal.returns-then-self-eq-LAYER_LIMIT
 returns-then-self-eq-LAYER_LIMIT c = grow_eight _ _ (ok (goal.at.returns-then-self-eq-LAYER_LIMIT c).Else-not-fits) c.if-self.false c.if-self-eq-LAYER_LIMIT.true
 
-pub raise-requires : goal.raise-requires
-raise-requires c =
-    let e = ok (goal.at.raise-requires c).Else-not-fits in
-    record { fit = e; full = c.if-self.false; layer = omega (arith, (fits_parts _ _ e).shape.j_low, c.if-self-eq-LAYER_LIMIT.false) }
+pub raise-requires-clause-fit : goal.raise-requires-clause-fit
+raise-requires-clause-fit c = ok (goal.at.raise-requires-clause-fit c).Else-not-fits
+
+pub raise-requires-clause-layer : goal.raise-requires-clause-layer
+raise-requires-clause-layer c =
+    omega (arith, (fits_parts _ _ (ok (goal.at.raise-requires-clause-layer c).Else-not-fits)).shape.j_low, c.if-self-eq-LAYER_LIMIT.false)
 
 pub returns : goal.returns
 returns c =

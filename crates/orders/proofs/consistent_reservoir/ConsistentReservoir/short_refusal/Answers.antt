@@ -1,31 +1,11 @@
 -- `orders::consistent_reservoir::ConsistentReservoir::short_refusal` meets its contract.
 -- Assumes nothing.
-use Prim.Native.Nat.{◌^◌}
-use native.Mathlib.Omega.{arith}
-use borrow.Author.Tests.{lt-ltb, le-ltb, eq-eqb, ne_eqb}
-use Rattle.orders.specs.ReservoirCalls.{short_refusal}
+use mathlib.Core.List.{[]}
+use Rattle.orders.proofs.OpenLaws.{test_yes, test_no, short_four}
 use Rattle.orders.proofs.consistent_reservoir.ConsistentReservoir.short_refusal.Goals as goal
 
-pub returns-then-n-gt-N_LIMIT : goal.returns-then-n-gt-N_LIMIT
-unfolding short_refusal
-returns-then-n-gt-N_LIMIT c =
-    let a = c.args in
-    rw (lt-ltb (2 ^ 30) a.n (omega arith))
+pub returns-in-Ok : goal.returns-in-Ok
+returns-in-Ok c = short_four _ _ (test_yes _ _ c.in-Ok.ensures)
 
-pub returns-then-k-eq0 : goal.returns-then-k-eq0
-unfolding short_refusal
-returns-then-k-eq0 c =
-    let a = c.args in
-    rw (le-ltb (2 ^ 30) a.n (omega arith), eq-eqb a.k 0 (omega arith))
-
-pub returns-then-n-k : goal.returns-then-n-k
-unfolding short_refusal
-returns-then-n-k c =
-    let a = c.args in
-    rw (le-ltb (2 ^ 30) a.n (omega arith), ne_eqb a.k 0 c.if-k-eq0.false, lt-ltb a.n a.k (omega arith))
-
-pub returns : goal.returns
-unfolding short_refusal
-returns c =
-    let a = c.args in
-    rw (le-ltb (2 ^ 30) a.n (omega arith), ne_eqb a.k 0 c.if-k-eq0.false, le-ltb a.n a.k (omega arith))
+pub returns-in-Err : goal.returns-in-Err
+returns-in-Err c = (test_no 0 _ _ _ [] c.in-Err.ensures).0

@@ -1,0 +1,7 @@
+-- `orders::layer::Layer::size` meets its contract.
+-- Assumes nothing.
+use Rattle.orders.proofs.LogLaws.{size_shl}
+use Rattle.orders.proofs.layer.Layer.size.Goals as goal
+
+pub returns : goal.returns
+returns c = size_shl c.args.self.number c.args.self.below
