@@ -1,6 +1,6 @@
 -- A line's fields, as std's iterator over the parts between tabs yields them.
 -- Assumes nothing.
-use Rattle.std.proofs.Common.{◌≡◌, refl, sym, ap, ◌∙◌, List, [], ◌∷◌, ℕ, ◌≤◌, Bool, true, false, Option, Some, None}
+use Rattle.std.proofs.Common.{◌≡◌, refl, sym, ap, ◌∙◌, List, [], ◌∷◌, ◌++◌, append_assoc, append-nil, ℕ, ◌≤◌, Bool, true, false, Option, Some, None}
 use borrow.Author.Tests.{le-leb}
 use lib.Dec.{eqb}
 use lib.ListN.{length}
@@ -35,20 +35,39 @@ module _ {S A B : Type 0} {steps : S → Option A → S → Type 0} {v : A → B
   next_none {ys = []} w p = refl
   next_none {ys = y ∷ ys} w p = absurd (w.runs.0 t p)
 
-  -- by what `is_some` says of an item
-  pub next_is : {ys : List B} {r : Option A} → true ≡ is_some r → YieldsList steps v s ys → steps s r t → (y : B) × (zs : List B) × (ys ≡ y ∷ zs)
-  next_is {r = Some x} e w p = let l = next_some w p in (v x, l.rest, l.is)
-  next_is {r = None} e w p = cc
+-- what an iterator still yields of a list, when those in front came
+pub record Past {S A B : Type 0} (steps : S → Option A → S → Type 0) (v : A → B) (front : List B) (t : S) (ys : List B) : Type 0 where
+  pub rest : List B
+  pub is : ys ≡ front ++ rest
+  pub yields : YieldsList steps v t rest
 
-  pub next_ends : {ys : List B} {r : Option A} → false ≡ is_some r → YieldsList steps v s ys → steps s r t → ys ≡ []
-  next_ends {r = Some x} e w p = cc
-  next_ends {r = None} e w p = next_none w p
+module _ {S A B : Type 0} {steps : S → Option A → S → Type 0} {v : A → B} {t : S} {front ys : List B} (p : Past steps v front t ys) where
+  pub past_more : (x : A) (u : S) → steps t (Some x) u → Past steps v (front ++ (v x ∷ [])) u ys
+  past_more x u q =
+      let n = next_some {t = u} {x = x} p.yields q in
+      record {
+        rest = n.rest;
+        is = p.is ∙ ap (λ (r : List B). front ++ r) n.is ∙ sym (append_assoc front (v x ∷ []) n.rest);
+        yields = n.yields;
+      }
+
+  pub past_ends : (u : S) → steps t None u → ys ≡ front
+  past_ends u q = p.is ∙ ap (λ (r : List B). front ++ r) (next_none {t = u} p.yields q) ∙ append-nil front
+
+  -- by what `is_some` says of an item
+  pub past_is : (r : Option A) (u : S) → true ≡ is_some r → steps t r u → (y : B) × (zs : List B) × (ys ≡ front ++ (y ∷ zs))
+  past_is (Some x) u e q = let n = next_some {t = u} {x = x} p.yields q in (v x, n.rest, p.is ∙ ap (λ (r : List B). front ++ r) n.is)
+  past_is None u e q = cc
+
+  pub past_not : (r : Option A) (u : S) → false ≡ is_some r → steps t r u → ys ≡ front
+  past_not (Some x) u e q = cc
+  past_not None u e q = past_ends u q
 
 -- the parts of a line that a closure cuts; `by_test` is only there to tell which closure
 pub split_start : {F : Type 0} {g : Mut F (Bor ℕ × Unit {0}) Bool} {s : _} {X : (ℕ → Bool) → Type 0} (by_test : (p : ℕ → Bool) → ComputesKey g p (split_callee s) → X p)
     → (p : ℕ → Bool) {f : F} (xs : List ℕ) → split_rest s ≡ xs → split_done s ≡ false → split_callee s ≡ f
-    → ((x : ℕ) (b : Bool) (q : F) → CalledAt g f x b q → (q ≡ f) × (b ≡ p x)) → YieldsList (split_steps g) (λ x. x.now) s (slice_split p xs)
-split_start {g = g} by_test p xs rest done callee tests = YieldsList-from_slice_split g p xs rest done callee tests
+    → ((x : ℕ) (b : Bool) (q : F) → CalledAt g f x b q → (q ≡ f) × (b ≡ p x)) → Past (split_steps g) (λ x. x.now) [] s (slice_split p xs)
+split_start {g = g} by_test p xs rest done callee tests = record { rest = slice_split p xs; is = refl; yields = YieldsList-from_slice_split g p xs rest done callee tests }
 
 -- ---- a line
 

@@ -66,15 +66,6 @@ put_then {a} {b} {c} {s} {t} {at} {r} {q} x y =
     ∙ append_assoc front s (t ++ drop q a)
     ∙ ap (λ (l : List ℕ). front ++ l) (sym (append_assoc s t (drop q a))))
 
--- a text put where it fits leaves the list's length,
-pub length_put : {a b t : List ℕ} {at r : ℕ} → Put a at t b r → at + length t ≤ length a → length b ≡ length a
-length_put {a} {b} {t} {at} {r} p h =
-    ap length (put_is p) ∙ simp (length-append, length-take, length-drop) (omega (arith, p.next_is))
-
--- and ends within it
-pub put_fits : {a b t : List ℕ} {at r : ℕ} → Put a at t b r → at + length t ≤ length a → r ≤ length b
-put_fits p h = omega (arith, length_put p h, p.next_is)
-
 -- a text put behind one that was written from the list's start on
 pub put_written : (xs old text : List ℕ) {after : List ℕ} {r : ℕ} → Put (written xs old) (length xs) text after r → after ≡ written (xs ++ text) old
 put_written xs old text p = (put_then first p).bytes

@@ -12,7 +12,16 @@ use crate::texts::Text;
 use answers::Refusal;
 use rounds::round::Round;
 
-// What a round is kept in and a plan written to: lists that are lent, since there is no heap.
+// Of a line that has not ended its first bytes are held, so many, which is enough to know that it is too long.
+const HELD_MOST: usize = 81;
+
+// No line of a plan is longer, and no other answer.
+const PLACE_LINE: usize = 33;
+
+const ANSWER_LINE: usize = 32;
+
+// What a round is kept in and a plan written to: lists that are lent, since there is no heap. The list that holds a line is lent
+// beside it, since a part of that is answered while the others are lent, and so is the list of what is put out.
 #[derive(Drop)]
 pub struct Memory<'a> {
     pub list: &'a mut [u32],
@@ -37,13 +46,13 @@ pub struct Fed {
     pub put: usize,
 }
 
-// Holds bytes of a line behind those that are held, to 81 in all, and answers how many that is.
+// Holds bytes of a line behind those that are held, as far as there is room, and answers how many are held then.
 fn keep(line: &mut [u8], held: usize, bytes: &[u8]) -> usize
     requires { (held ≤ held_most) × (held_most ≤ length line.old) }
     ensures upper_bound { result ≤ held_most }
     ensures holds { Holds result line.new (take held_most (take held line.old ++ bytes.now)) }
 {
-    let count = bytes.len().min(81 - held);
+    let count = bytes.len().min(HELD_MOST - held);
     let size = held + count;
     line[held..size].copy_from_slice(&bytes[..count]);
     size
@@ -172,13 +181,20 @@ impl Session {
         ensures buffers_after { BuffersAfter result line.old line.new memory.old.scratch.now memory.new.scratch.now }
         ensures lent { SameLists memory.old memory.new }
     {
-        if self.held > 81 || line.len() < self.held {
+        if self.held > HELD_MOST || line.len() < self.held {
             return Err(Refusal::Misfit);
         }
-        if line.len() < 81 || out.len() < 32 || (out.len() - 32) / 33 < memory.locations.len() {
+        if line.len() < HELD_MOST {
             return Err(Refusal::ShortMemory);
         }
-        let most = out.len() - 32 - memory.locations.len() * 33;
+        let room = memory
+            .locations
+            .len()
+            .saturating_mul(PLACE_LINE)
+            .saturating_add(ANSWER_LINE);
+        let Some(most) = out.len().checked_sub(room) else {
+            return Err(Refusal::ShortMemory);
+        };
         let mut text = Text { out, len: 0 };
         let taken = self.take_lines(piece, line, memory, &mut text, most);
         Ok(Fed {

@@ -25,7 +25,8 @@ fn digits(n: u32) -> usize
     n.max(1).ilog10() as usize + 1
 }
 
-// Writes a number in decimal, without leading zeros, over as many places as it has digits: from the last to the first.
+// Writes a number in decimal, without leading zeros, over as many places as it has digits: from the last to the first. By hand,
+// since of std's printing a proof knows what it puts only where that is a String, which needs a heap.
 fn spell(places: &mut [u8], n: u32)
     requires { length places.old ≡ length (decimal_of n) }
     ensures { places.new ≡ decimal_of n }
