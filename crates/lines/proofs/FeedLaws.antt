@@ -154,66 +154,68 @@ module _ (bytes : List ℕ) (w : World) (line out : List ℕ) (held at e : ℕ) 
 
 -- ---- the loop
 
--- so far: what remains to be fed, from where it stands now, comes to what the whole piece does
-pub record Going (most : ℕ) (start : Progress) (piece before : List ℕ) (w : World) (line out : List ℕ) (held taken put : ℕ) : Type 0 where
+-- so far: what is left of the piece, from where it stands now, comes to what the whole piece does
+pub record Going (most : ℕ) (start : Progress) (piece before : List ℕ) (w : World) (line out : List ℕ) (held : ℕ) (rest : List ℕ) (put : ℕ) : Type 0 where
   pub few : held ≤ 81
-  pub inside : taken ≤ length piece
+  pub inside : length rest ≤ length piece
+  pub left : rest ≡ drop (length piece - length rest) piece
   pub fits : put ≤ length out
   pub same : out ≡ written (take put out) before
-  pub on : fed_up_to most (progress w (take held line) (take put out)) (drop taken piece) ≡ fed_up_to most start piece
+  pub on : fed_up_to most (progress w (take held line) (take put out)) rest ≡ fed_up_to most start piece
 
-pub going_start : (most : ℕ) (w : World) (piece line out : List ℕ) (held : ℕ) → held ≤ 81 → Going most (progress w (take held line) []) piece out w line out held 0 0
+pub going_start : (most : ℕ) (w : World) (piece line out : List ℕ) (held : ℕ) → held ≤ 81 → Going most (progress w (take held line) []) piece out w line out held piece 0
 unfolding written
-going_start most w piece line out held h = record { few = h; inside = omega arith; fits = omega arith; same = refl; on = refl }
+going_start most w piece line out held h =
+    let none : 0 ≡ length piece - length piece = omega arith in
+    record { few = h; inside = omega arith; left = ap (λ (n : ℕ). drop n piece) none; fits = omega arith; same = refl; on = refl }
 
-module _ (most : ℕ) (start : Progress) (piece before : List ℕ) (w : World) (line out : List ℕ) (held taken put : ℕ) (g : Going most start piece before w line out held taken put) where
+module _ (most : ℕ) (start : Progress) (piece before : List ℕ) (w : World) (line out : List ℕ) (held : ℕ) (rest : List ℕ) (put : ℕ) (g : Going most start piece before w line out held rest put) where
   -- another line
-  pub going_more : (bytes : List ℕ) (w' : World) (line' out' : List ℕ) (held' n put' : ℕ) → put ≤ most → bytes ≡ drop taken piece
-      → put' ≤ length out' → Stepped bytes w line out held put w' line' out' held' n put' → Going most start piece before w' line' out' held' (taken + n) put'
-  going_more bytes w' line' out' held' n put' m b f s =
+  pub going_more : (rest' : List ℕ) (w' : World) (line' out' : List ℕ) (held' n put' : ℕ) → put ≤ most → rest' ≡ drop n rest
+      → put' ≤ length out' → Stepped rest w line out held put w' line' out' held' n put' → Going most start piece before w' line' out' held' rest' put'
+  going_more rest' w' line' out' held' n put' m b f s =
       let size : length (take put out) ≡ put = length-take-le put out g.fits in
       let puts : Put (written (take put out) before) (length (take put out)) s.text out' put' =
       subst (λ (x : List ℕ). Put x (length (take put out)) s.text out' put') g.same
       (subst (λ (i : ℕ). Put out i s.text out' put') (sym size) s.puts) in
-      let within : n ≤ length (drop taken piece) = subst (λ (x : List ℕ). n ≤ length x) b s.inside in
+      let shorter : length rest' ≡ length rest - n = ap length b ∙ length-drop n rest in
+      let past : n + (length piece - length rest) ≡ length piece - length rest' = omega (arith, shorter, s.inside, g.inside) in
       record {
         few = s.few;
-        inside = omega (arith, g.inside, within, length-drop taken piece);
+        inside = omega (arith, shorter, g.inside);
+        left = b ∙ ap (drop n) g.left ∙ drop-drop n (length piece - length rest) piece ∙ ap (λ (i : ℕ). drop i piece) (omega (arith, past));
         fits = f;
         same = put_written (take put out) before s.text puts ∙ ap (λ (x : List ℕ). written x before) (sym (put_take s.puts));
-        on =
-            ap (fed_up_to most (progress w' (take held' line') (take put' out'))) (sym (ap (drop n) b ∙ drop-drop n taken piece))
-            ∙ sym (s.is most m)
-            ∙ ap (fed_up_to most (progress w (take held line) (take put out))) b
-            ∙ g.on;
+        on = ap (fed_up_to most (progress w' (take held' line') (take put' out'))) b ∙ sym (s.is most m) ∙ g.on;
       }
 
   -- the piece ends
-  pub took_all : length piece ≤ taken → Took most start piece before w line out held taken put
+  pub took_all : length rest ≤ 0 → Took most start piece before w line out held (length piece - length rest) put
   took_all h =
-      let e : drop taken piece ≡ [] = drop_of_length-le piece h in
+      let s = progress w (take held line) (take put out) in
+      let e : rest ≡ [] = drop_of_length-le rest {i = 0} h in
       record {
         few = g.few;
-        inside = g.inside;
+        inside = omega arith;
         fits = g.fits;
         same = g.same;
-        is = sym g.on ∙ ap (fed_up_to most (progress w (take held line) (take put out))) e ∙ ap (fed_part (progress w (take held line) (take put out))) (sym e);
+        is = sym g.on ∙ ap (fed_up_to most s) e ∙ ap (fed_part s) (sym e ∙ g.left);
       }
 
   -- there may be no room for another answer
-  pub took_full : taken < length piece → most < put → Took most start piece before w line out held taken put
+  pub took_full : 0 < length rest → most < put → Took most start piece before w line out held (length piece - length rest) put
   took_full h m =
       let s = progress w (take held line) (take put out) in
-      let e : drop taken piece ≡ get_or piece taken 0 ∷ drop (suc taken) piece = drop-cons piece taken 0 h in
+      let e : rest ≡ get_or rest 0 0 ∷ drop 1 rest = drop-cons rest 0 0 h in
       let n : most < length (take put out) = omega (arith, length-take-le put out g.fits) in
-      let stop : fed_up_to most s (get_or piece taken 0 ∷ drop (suc taken) piece) ≡ fed_part s (get_or piece taken 0 ∷ drop (suc taken) piece) =
+      let stop : fed_up_to most s (get_or rest 0 0 ∷ drop 1 rest) ≡ fed_part s (get_or rest 0 0 ∷ drop 1 rest) =
       rw (lt-leb (length (take put out)) most n) in
       record {
         few = g.few;
-        inside = g.inside;
+        inside = omega arith;
         fits = g.fits;
         same = g.same;
-        is = sym g.on ∙ ap (fed_up_to most s) e ∙ stop ∙ ap (fed_part s) (sym e);
+        is = sym g.on ∙ ap (fed_up_to most s) e ∙ stop ∙ ap (fed_part s) (sym e ∙ g.left);
       }
 
 -- ---- the calls

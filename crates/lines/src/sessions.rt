@@ -161,11 +161,12 @@ impl Session {
         ensures text_lent { SameList text.old text.new }
         ensures took { Took most (progress (world_of self.old memory.old) (take self.old.held line.old) []) piece.now text.old.out.now (world_of self.new memory.new) line.new text.new.out.now self.new.held result text.new.len }
     {
-        let mut taken = 0;
-        while taken < piece.len() && text.len <= most {
-            taken += self.take_line(&piece[taken..], line, memory, text);
+        let mut rest = piece;
+        while !rest.is_empty() && text.len <= most {
+            let taken = self.take_line(rest, line, memory, text);
+            rest = &rest[taken..];
         }
-        taken
+        piece.len() - rest.len()
     }
 
     // Feeds a piece of the input, as long as there is room for the longest answer: refusals 12, 4. What is put out stands in the
