@@ -1,30 +1,28 @@
 -- What the calls on choosers leave, in the terms of their code.
 -- Assumes nothing.
-use mathlib.Core.Path.{◌≡◌, sym, ap, ◌∙◌}
+use mathlib.Core.Path.{◌≡◌, refl, sym, ap, ◌∙◌}
 use mathlib.Core.Bool.{Bool}
 use mathlib.Core.List.{List}
-use Prim.Native.Nat.{ℕ, ◌+◌, ◌^◌, ◌≤◌}
+use Prim.Native.Nat.{ℕ, ◌≤◌}
 use borrow.Author.Tests.{le-ltb}
 use lib.ListN.{length}
-use Rattle.std.specs.Prelude.{Result, Ok, Err}
-use Rattle.lists.specs.Told.{Told}
+use Rattle.std.specs.Prelude.{Result}
+use Rattle.lists.specs.Told.{Told, says, refusal}
 use Rattle.answers.specs.declared.Refusal.{Refusal}
-use Rattle.answers.specs.Refusals.{number, told}
+use Rattle.answers.specs.Refusals.{told}
 use Rattle.lists.specs.Lists.{written}
 use Rattle.choosers.specs.declared.choose_k.ConsistentChooseKHasher.{ConsistentChooseKHasher}
 use Rattle.choosers.specs.ChooserCalls.{fitting, After, after_new, new_call, new_with_k_call}
 use Rattle.exports.specs.Coded.{truth, coded_done}
 use Rattle.exports.specs.Crossings.{crossed, crossed_one, enough, words_after}
+use Rattle.exports.specs.InnerRecords.{made_over}
 use Rattle.exports.specs.Chooser.{chooser_words, chooser_as, words_made, new_crossed, new_with_k_crossed, left_as, fits_crossed}
 
 -- ---- the record goes to the words, by what was said
 
-module _ (m : Result ConsistentChooseKHasher Refusal) (ws : List ℕ) where
-  pub made_made : (c : ConsistentChooseKHasher) (ws' : List ℕ) → m ≡ Ok c → ws' ≡ written (chooser_words c) ws → crossed_one 0 ws' ≡ crossed_one (coded_done (told m)) (words_made ws (told m))
-  made_made c ws' e w = rw (e, w)
-
-  pub made_refused : (w : Refusal) (x : ℕ) → m ≡ Err w → x ≡ 2 ^ 63 + number w → crossed_one x ws ≡ crossed_one (coded_done (told m)) (words_made ws (told m))
-  made_refused w x e a = rw (e, a)
+pub made_words : (ws : List ℕ) (t : Told ConsistentChooseKHasher) → made_over (λ l c. written (chooser_words c) l) ws t ≡ words_made ws t
+made_words ws (says c) = refl
+made_words ws (refusal w) = refl
 
 -- ---- the calls
 

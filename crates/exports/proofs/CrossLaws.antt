@@ -1,21 +1,23 @@
 -- What the calls on reservoirs leave, in the terms of their code.
 -- Assumes nothing.
-use mathlib.Core.Path.{◌≡◌, sym, ap, ◌∙◌}
+use mathlib.Core.Path.{◌≡◌, refl, sym, ap, ◌∙◌}
 use mathlib.Core.Bool.{Bool}
 use mathlib.Core.List.{List}
 use Prim.Native.Nat.{ℕ, ◌+◌, ◌^◌, ◌≤◌, ◌<◌}
 use borrow.Author.Tests.{lt-ltb, le-ltb}
 use lib.ListN.{length}
-use Rattle.std.specs.Prelude.{Option, Result, Ok, Err}
+use Rattle.std.specs.Prelude.{Option, Result}
+use Rattle.lists.specs.Told.{Told, says, refusal}
 use Rattle.lists.specs.Lists.{written}
 use Rattle.answers.specs.declared.Refusal.{Refusal}
-use Rattle.answers.specs.Refusals.{number, told}
+use Rattle.answers.specs.Refusals.{told}
 use Rattle.orders.specs.declared.consistent_reservoir.Exchange.{Exchange}
 use Rattle.orders.specs.declared.consistent_reservoir.ConsistentReservoir.{ConsistentReservoir}
 use Rattle.orders.specs.ReservoirCalls.{fitting, after, after_open, open_call, short_refusal, told_exchange, admit_call, grow_layer_call, after_sample, sample_call}
 use Rattle.exports.specs.Coded.{truth, coded_done}
 use Rattle.exports.specs.Crossings.{crossed, crossed_one, words_after}
-use Rattle.exports.specs.Reservoirs.{words_of, record_of, coded_exchange, new_crossed, next_crossed, grow_crossed, sample_crossed, fits_crossed}
+use Rattle.exports.specs.InnerRecords.{made_over}
+use Rattle.exports.specs.Reservoirs.{words_of, opened_as, record_of, coded_exchange, new_crossed, next_crossed, grow_crossed, sample_crossed, fits_crossed}
 
 -- ---- new
 
@@ -23,14 +25,14 @@ pub new_short : (k n key : ℕ) (l ws : List ℕ) (r w : ℕ) → r ≡ 2 ^ 63 +
 unfolding new_crossed
 new_short k n key l ws r w e s h = rw (e, s, lt-ltb (length ws) 6 h)
 
-module _ (k n key : ℕ) (l ws : List ℕ) (o : Result ConsistentReservoir Refusal) (l' : List ℕ) (e : after_open (told o) l' ≡ open_call k n key l) (h : 6 ≤ length ws) where
-  pub new_made : (r : ConsistentReservoir) → o ≡ Ok r → (ws' : List ℕ) → ws' ≡ written (words_of r) ws → crossed 0 ws' l' ≡ new_crossed k n key l ws
-  unfolding new_crossed
-  new_made r m ws' w = rw (le-ltb (length ws) 6 h, ← e, m, w)
+pub opened_is : (ws l : List ℕ) (t : Told ConsistentReservoir) → crossed (coded_done t) (made_over (λ w r. written (words_of r) w) ws t) l ≡ opened_as ws t l
+opened_is ws l (says r) = refl
+opened_is ws l (refusal c) = refl
 
-  pub new_refused : (c : Refusal) (a : ℕ) → o ≡ Err c → a ≡ 2 ^ 63 + number c → crossed a ws l' ≡ new_crossed k n key l ws
-  unfolding new_crossed
-  new_refused c a m w = rw (le-ltb (length ws) 6 h, ← e, m, w)
+pub new_crosses : (k n key : ℕ) (l ws l' ws' : List ℕ) (o : Result ConsistentReservoir Refusal) (a : ℕ) → after_open (told o) l' ≡ open_call k n key l → 6 ≤ length ws
+    → a ≡ coded_done (told o) → ws' ≡ made_over (λ w r. written (words_of r) w) ws (told o) → crossed a ws' l' ≡ new_crossed k n key l ws
+unfolding new_crossed
+new_crosses k n key l ws l' ws' o a e h x y = rw (le-ltb (length ws) 6 h, ← e, x, y) (opened_is ws l' (told o))
 
 -- ---- admit
 

@@ -1,20 +1,22 @@
 -- What the calls on orders leave, in the terms of their code.
 -- Assumes nothing.
-use mathlib.Core.Path.{◌≡◌}
+use mathlib.Core.Path.{◌≡◌, refl}
 use mathlib.Core.List.{List}
 use Prim.Native.Nat.{ℕ, ◌+◌, ◌%◌, ◌^◌, ◌≤◌, ◌<◌}
 use borrow.Author.Tests.{lt-ltb, le-ltb}
 use lib.ListN.{length, take}
+use Rattle.lists.specs.Told.{Told, says, refusal}
 use Rattle.lists.specs.Lists.{written}
-use Rattle.std.specs.Prelude.{Result, Ok, Err}
+use Rattle.std.specs.Prelude.{Result}
 use Rattle.answers.specs.declared.Refusal.{Refusal}
-use Rattle.answers.specs.Refusals.{number, told}
+use Rattle.answers.specs.Refusals.{told}
 use Rattle.orders.specs.declared.consistent_permutation.ConsistentPermutation.{ConsistentPermutation}
 use Rattle.orders.specs.Orders.{P}
 use Rattle.orders.specs.OrderCalls.{new_call}
-use Rattle.exports.specs.Coded.{coded_number, fed_all, digest}
+use Rattle.exports.specs.InnerRecords.{made_over}
+use Rattle.exports.specs.Coded.{coded_done, coded_number, fed_all, digest}
 use Rattle.exports.specs.Crossings.{crossed_one, short_of}
-use Rattle.exports.specs.Orders.{order_words, new_order_crossed, next_order_crossed, order_digest}
+use Rattle.exports.specs.Orders.{order_words, started_as, new_order_crossed, next_order_crossed, order_digest}
 
 -- ---- new
 
@@ -22,14 +24,14 @@ pub new_short : (n key : ℕ) (ws : List ℕ) (r w : ℕ) → r ≡ 2 ^ 63 + w �
 unfolding new_order_crossed
 new_short n key ws r w e s h = rw (e, s, lt-ltb (length ws) 18 h)
 
-module _ (n key : ℕ) (ws : List ℕ) (s : Result ConsistentPermutation Refusal) (e : told s ≡ new_call n key) (h : 18 ≤ length ws) where
-  pub new_refused : (c : Refusal) (x : ℕ) → s ≡ Err c → x ≡ 2 ^ 63 + number c → crossed_one x ws ≡ new_order_crossed n key ws
-  unfolding new_order_crossed
-  new_refused c x m w = rw (le-ltb (length ws) 18 h, ← e, m, w)
+pub started_is : (ws : List ℕ) (t : Told ConsistentPermutation) → crossed_one (coded_done t) (made_over (λ w o. written (order_words o) w) ws t) ≡ started_as ws t
+started_is ws (says o) = refl
+started_is ws (refusal c) = refl
 
-  pub new_made : (o : ConsistentPermutation) → s ≡ Ok o → (ws' : List ℕ) → ws' ≡ written (order_words o) ws → crossed_one 0 ws' ≡ new_order_crossed n key ws
-  unfolding new_order_crossed
-  new_made o m ws' w = rw (le-ltb (length ws) 18 h, ← e, m, w)
+pub new_crosses : (n key : ℕ) (ws ws' : List ℕ) (s : Result ConsistentPermutation Refusal) (a : ℕ) → told s ≡ new_call n key → 18 ≤ length ws
+    → a ≡ coded_done (told s) → ws' ≡ made_over (λ w o. written (order_words o) w) ws (told s) → crossed_one a ws' ≡ new_order_crossed n key ws
+unfolding new_order_crossed
+new_crosses n key ws ws' s a e h x y = rw (le-ltb (length ws) 18 h, ← e, x, y) (started_is ws (told s))
 
 -- ---- next
 

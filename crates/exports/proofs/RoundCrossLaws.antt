@@ -1,16 +1,16 @@
 -- What the calls on rounds leave, in the terms of their code.
 -- Assumes nothing.
-use mathlib.Core.Path.{◌≡◌, sym, ap, ◌∙◌}
+use mathlib.Core.Path.{◌≡◌, refl, sym, ap, ◌∙◌}
 use mathlib.Core.Bool.{Bool}
 use mathlib.Core.List.{List}
-use Prim.Native.Nat.{ℕ, ◌+◌, ◌^◌, ◌≤◌}
+use Prim.Native.Nat.{ℕ, ◌≤◌}
 use native.Mathlib.Omega.{arith}
 use borrow.Author.Tests.{le-ltb}
 use lib.ListN.{length}
 use Rattle.std.specs.Prelude.{Result, Ok, Err}
-use Rattle.lists.specs.Told.{Told}
+use Rattle.lists.specs.Told.{Told, says, refusal}
 use Rattle.answers.specs.declared.Refusal.{Refusal}
-use Rattle.answers.specs.Refusals.{number, told}
+use Rattle.answers.specs.Refusals.{told}
 use Rattle.lists.specs.Lists.{written}
 use Rattle.rounds.specs.declared.round.Round.{Round}
 use Rattle.rounds.specs.Rounds.{state, State, fitting, after_open, open_call, After}
@@ -20,16 +20,14 @@ use Rattle.rounds.specs.Replays.{ReplayScratch, Replayed, after_replay, replay_c
 use Rattle.exports.specs.Coded.{truth, coded_done}
 use Rattle.exports.specs.Crossings.{crossed, crossed_one, enough, words_after}
 use Rattle.exports.specs.Slots.{ScratchAfter}
+use Rattle.exports.specs.InnerRecords.{made_over}
 use Rattle.exports.specs.Rounds.{round_words, round_as, words_opened, open_crossed, crossed_round, left_as, crossed_plan, plan_crossed, fits_crossed, crossed_replay, replay_crossed, ReplayScratchAs, ReplayedAs}
 
 -- ---- the record goes to the words, by what was said
 
-module _ (o : Result Round Refusal) (ws : List ℕ) where
-  pub opened_made : (r : Round) (ws' : List ℕ) → o ≡ Ok r → ws' ≡ written (round_words r) ws → crossed_one 0 ws' ≡ crossed_one (coded_done (told o)) (words_opened ws (told o))
-  opened_made r ws' e w = rw (e, w)
-
-  pub opened_refused : (w : Refusal) (x : ℕ) → o ≡ Err w → x ≡ 2 ^ 63 + number w → crossed_one x ws ≡ crossed_one (coded_done (told o)) (words_opened ws (told o))
-  opened_refused w x e a = rw (e, a)
+pub opened_words : (ws : List ℕ) (t : Told Round) → made_over (λ l r. written (round_words r) l) ws t ≡ words_opened ws t
+opened_words ws (says r) = refl
+opened_words ws (refusal w) = refl
 
 -- ---- the calls
 

@@ -3,6 +3,7 @@ pub mod InnerDigests
 pub mod Crossings
 pub mod Reservoirs
 pub mod Orders
+pub mod InnerRecords
 pub mod InnerRuns
 pub mod Chooser
 pub mod Slots

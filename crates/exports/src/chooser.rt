@@ -2,56 +2,35 @@
 ghost use Rattle.std.specs.Prelude.{◌≡◌, cond, ◌≤◌, length};
 ghost use Rattle.lists.specs.Lists.{written};
 ghost use Rattle.answers.specs.Refusals.{told};
-ghost use Rattle.exports.specs.Coded.{coded_done};
 ghost use Rattle.exports.specs.Crossings.{crossed, crossed_one};
 ghost use Rattle.exports.specs.Chooser.{chooser_words, chooser_as, words_made, new_crossed, new_with_k_crossed, grow_crossed, next_crossed, shrink_crossed, fits_crossed};
 
-use crate::parts;
+use crate::records::Record;
+use crate::{parts, records};
 use answers::Refusal;
 use choosers::choose_k::ConsistentChooseKHasher;
 
-// C lends words of any length, so that there are three is tested once in each call, and asked for by those that read and write them.
-fn loaded(words: &[u64]) -> ConsistentChooseKHasher
-    requires { 3 ≤ length words.now }
-    ensures { result ≡ chooser_as words.now }
-{
-    ConsistentChooseKHasher {
-        state: words[0],
-        n: words[1],
-        k: words[2],
-    }
-}
+impl Record for ConsistentChooseKHasher {
+    type Word = u64;
 
-fn store(c: ConsistentChooseKHasher, words: &mut [u64])
-    requires { 3 ≤ length words.old }
-    ensures { words.new ≡ written (chooser_words c) words.old }
-{
-    words[0] = c.state;
-    words[1] = c.n;
-    words[2] = c.k;
-}
+    ghost count = { 3 };
 
-// The record after a call, where that was not refused.
-fn keep(accepted: bool, c: ConsistentChooseKHasher, words: &mut [u64])
-    requires { 3 ≤ length words.old }
-    ensures { words.new ≡ cond accepted (written (chooser_words c) words.old) words.old }
-{
-    if accepted {
-        store(c, words);
-    }
-}
+    ghost over = { λ words c. written (chooser_words c) words };
 
-// The chooser that was made goes to the words, a refusal to the answer.
-fn store_made(made: Result<ConsistentChooseKHasher, Refusal>, words: &mut [u64]) -> u64
-    requires { 3 ≤ length words.old }
-    ensures { crossed_one result words.new ≡ crossed_one (coded_done (told made)) (words_made words.old (told made)) }
-{
-    match made {
-        Ok(c) => {
-            store(c, words);
-            0
+    ghost read = { chooser_as };
+
+    fn loaded(words: &[u64]) -> Self {
+        ConsistentChooseKHasher {
+            state: words[0],
+            n: words[1],
+            k: words[2],
         }
-        Err(why) => parts::refused(why),
+    }
+
+    fn store(self, words: &mut [u64]) {
+        words[0] = self.state;
+        words[1] = self.n;
+        words[2] = self.k;
     }
 }
 
@@ -63,7 +42,7 @@ pub fn perillajamb_chooser_new(state: u64, n: u64, words: &mut [u64]) -> u64
         let limit = ConsistentChooseKHasher::N_LIMIT;
         return parts::refused(parts::short_of(limit, 0, n));
     }
-    store_made(ConsistentChooseKHasher::new(state, n), words)
+    records::store_made(ConsistentChooseKHasher::new(state, n), words)
 }
 
 // The k samples of 0..n.
@@ -80,7 +59,7 @@ pub fn perillajamb_chooser_new_with_k(
         let limit = ConsistentChooseKHasher::N_LIMIT;
         return parts::refused(parts::short_of(limit, k, n));
     }
-    store_made(
+    records::store_made(
         ConsistentChooseKHasher::new_with_k(state, n, k, list),
         words,
     )
@@ -93,9 +72,9 @@ pub fn perillajamb_chooser_grow_k(words: &mut [u64], list: &mut [u64]) -> u64
     if words.len() < 3 {
         return parts::refused(Refusal::ShortMemory);
     }
-    let mut c = loaded(words);
+    let mut c = ConsistentChooseKHasher::loaded(words);
     let said = c.grow_k(list);
-    keep(said.is_ok(), c, words);
+    records::keep(said.is_ok(), c, words);
     parts::wide_number(said)
 }
 
@@ -106,9 +85,9 @@ pub fn perillajamb_chooser_next(words: &mut [u64], list: &mut [u64]) -> u64
     if words.len() < 3 {
         return parts::refused(Refusal::ShortMemory);
     }
-    let mut c = loaded(words);
+    let mut c = ConsistentChooseKHasher::loaded(words);
     let said = c.next(list);
-    keep(said.is_ok(), c, words);
+    records::keep(said.is_ok(), c, words);
     parts::hash(said)
 }
 
@@ -119,9 +98,9 @@ pub fn perillajamb_chooser_shrink_n(words: &mut [u64], list: &mut [u64]) -> u64
     if words.len() < 3 {
         return parts::refused(Refusal::ShortMemory);
     }
-    let mut c = loaded(words);
+    let mut c = ConsistentChooseKHasher::loaded(words);
     let said = c.shrink_n(list);
-    keep(said.is_ok(), c, words);
+    records::keep(said.is_ok(), c, words);
     parts::wide_number(said)
 }
 
@@ -132,5 +111,5 @@ pub fn perillajamb_chooser_fits(words: &[u64], list: &[u64]) -> u64
     if words.len() < 3 {
         return parts::refused(Refusal::ShortMemory);
     }
-    parts::yes(loaded(words).fits(list))
+    parts::yes(ConsistentChooseKHasher::loaded(words).fits(list))
 }

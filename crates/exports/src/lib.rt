@@ -5,6 +5,7 @@ pub mod chooser;
 mod digests;
 mod parts;
 pub mod permutations;
+mod records;
 pub mod reservoirs;
 pub mod round;
 pub mod slots;

@@ -10,7 +10,8 @@ ghost use Rattle.exports.specs.InnerDigests.{fed_with};
 ghost use Rattle.exports.specs.InnerRuns.{ran_as, run_crossed};
 ghost use Rattle.exports.specs.Orders.{order_words, order_as, new_order_crossed, next_order_crossed, order_digest};
 
-use crate::parts;
+use crate::records::Record;
+use crate::{parts, records};
 use answers::Refusal;
 use orders::consistent_permutation::ConsistentPermutation;
 
@@ -21,53 +22,46 @@ pub struct Ran {
     pub fed: u64,
 }
 
-// C lends words of any length, so that there are eighteen is tested once in each call, and asked for by those that read and write them.
-fn loaded(ws: &[u32]) -> ConsistentPermutation
-    requires { 18 ≤ length ws.now }
-    ensures { result ≡ order_as ws.now }
-{
-    ConsistentPermutation {
-        master_key: parts::joined(ws[0], ws[1]),
-        n: ws[2],
-        counters: [
-            ws[3], ws[4], ws[5], ws[6], ws[7], ws[8], ws[9], ws[10], ws[11], ws[12], ws[13],
-            ws[14], ws[15], ws[16], ws[17],
-        ],
+impl Record for ConsistentPermutation {
+    type Word = u32;
+
+    ghost count = { 18 };
+
+    ghost over = { λ ws o. written (order_words o) ws };
+
+    ghost read = { order_as };
+
+    fn loaded(ws: &[u32]) -> Self {
+        ConsistentPermutation {
+            master_key: parts::joined(ws[0], ws[1]),
+            n: ws[2],
+            counters: [
+                ws[3], ws[4], ws[5], ws[6], ws[7], ws[8], ws[9], ws[10], ws[11], ws[12], ws[13],
+                ws[14], ws[15], ws[16], ws[17],
+            ],
+        }
     }
-}
 
-fn store(o: ConsistentPermutation, ws: &mut [u32])
-    requires { 18 ≤ length ws.old }
-    ensures { ws.new ≡ written (order_words o) ws.old }
-{
-    let cs = o.counters;
-    ws[0] = (o.master_key % 0x1_0000_0000) as u32;
-    ws[1] = (o.master_key / 0x1_0000_0000) as u32;
-    ws[2] = o.n;
-    ws[3] = cs[0];
-    ws[4] = cs[1];
-    ws[5] = cs[2];
-    ws[6] = cs[3];
-    ws[7] = cs[4];
-    ws[8] = cs[5];
-    ws[9] = cs[6];
-    ws[10] = cs[7];
-    ws[11] = cs[8];
-    ws[12] = cs[9];
-    ws[13] = cs[10];
-    ws[14] = cs[11];
-    ws[15] = cs[12];
-    ws[16] = cs[13];
-    ws[17] = cs[14];
-}
-
-// The record after a call, where that was not refused.
-fn keep(accepted: bool, o: ConsistentPermutation, ws: &mut [u32])
-    requires { 18 ≤ length ws.old }
-    ensures { ws.new ≡ cond accepted (written (order_words o) ws.old) ws.old }
-{
-    if accepted {
-        store(o, ws);
+    fn store(self, ws: &mut [u32]) {
+        let cs = self.counters;
+        ws[0] = (self.master_key % 0x1_0000_0000) as u32;
+        ws[1] = (self.master_key / 0x1_0000_0000) as u32;
+        ws[2] = self.n;
+        ws[3] = cs[0];
+        ws[4] = cs[1];
+        ws[5] = cs[2];
+        ws[6] = cs[3];
+        ws[7] = cs[4];
+        ws[8] = cs[5];
+        ws[9] = cs[6];
+        ws[10] = cs[7];
+        ws[11] = cs[8];
+        ws[12] = cs[9];
+        ws[13] = cs[10];
+        ws[14] = cs[11];
+        ws[15] = cs[12];
+        ws[16] = cs[13];
+        ws[17] = cs[14];
     }
 }
 
@@ -79,13 +73,7 @@ pub fn perillajamb_order_new(n: u32, key: u64, ws: &mut [u32]) -> u64
         let limit = u64::from(ConsistentPermutation::N_LIMIT);
         return parts::refused(parts::short_of(limit, 0, u64::from(n)));
     }
-    match ConsistentPermutation::new(n, key) {
-        Ok(order) => {
-            store(order, ws);
-            0
-        }
-        Err(why) => parts::refused(why),
-    }
+    records::store_made(ConsistentPermutation::new(n, key), ws)
 }
 
 // A state fed with the number that was given.
@@ -104,14 +92,14 @@ fn run(ws: &mut [u32], count: u32) -> Ran
     requires { 18 ≤ length ws.old }
     ensures { ran_as result ws.new ≡ run_crossed count ws.old }
 {
-    let mut order = loaded(ws);
+    let mut order = ConsistentPermutation::loaded(ws);
     let mut said = Ok(None);
     let mut fed = 0;
     for _ in 0..count {
         said = order.next();
         fed = fed_with(fed, said);
     }
-    keep(said.is_ok(), order, ws);
+    records::keep(said.is_ok(), order, ws);
     Ran {
         answer: parts::number_or_none(said),
         fed,
@@ -134,7 +122,7 @@ fn numbers_fed(n: u32, key: u64, count: u32) -> u64
 {
     let mut ws: [u32; 18] = [0; 18];
     let order = ConsistentPermutation::new(n, key).unwrap();
-    store(order, &mut ws);
+    order.store(&mut ws);
     run(&mut ws, count).fed
 }
 

@@ -5,43 +5,37 @@ ghost use Rattle.lists.specs.Lists.{written};
 ghost use Rattle.exports.specs.Crossings.{crossed, crossed_one};
 ghost use Rattle.exports.specs.Reservoirs.{words_of, record_of, new_crossed, next_crossed, grow_crossed, sample_crossed, fits_crossed};
 
-use crate::parts;
+use crate::records::Record;
+use crate::{parts, records};
 use answers::Refusal;
 use orders::consistent_reservoir::ConsistentReservoir;
 
-// C lends words of any length, so that there are six is tested once in each call, and asked for by those that read and write them.
-fn loaded(words: &[u32]) -> ConsistentReservoir
-    requires { 6 ≤ length words.now }
-    ensures { result ≡ record_of words.now }
-{
-    ConsistentReservoir {
-        master_key: parts::joined(words[0], words[1]),
-        k: words[2],
-        n: words[3],
-        j_max: words[4],
-        used: words[5],
+impl Record for ConsistentReservoir {
+    type Word = u32;
+
+    ghost count = { 6 };
+
+    ghost over = { λ words r. written (words_of r) words };
+
+    ghost read = { record_of };
+
+    fn loaded(words: &[u32]) -> Self {
+        ConsistentReservoir {
+            master_key: parts::joined(words[0], words[1]),
+            k: words[2],
+            n: words[3],
+            j_max: words[4],
+            used: words[5],
+        }
     }
-}
 
-fn store(r: ConsistentReservoir, words: &mut [u32])
-    requires { 6 ≤ length words.old }
-    ensures { words.new ≡ written (words_of r) words.old }
-{
-    words[0] = (r.master_key % 0x1_0000_0000) as u32;
-    words[1] = (r.master_key / 0x1_0000_0000) as u32;
-    words[2] = r.k;
-    words[3] = r.n;
-    words[4] = r.j_max;
-    words[5] = r.used;
-}
-
-// The record after a call, where that was not refused.
-fn keep(accepted: bool, r: ConsistentReservoir, words: &mut [u32])
-    requires { 6 ≤ length words.old }
-    ensures { words.new ≡ cond accepted (written (words_of r) words.old) words.old }
-{
-    if accepted {
-        store(r, words);
+    fn store(self, words: &mut [u32]) {
+        words[0] = (self.master_key % 0x1_0000_0000) as u32;
+        words[1] = (self.master_key / 0x1_0000_0000) as u32;
+        words[2] = self.k;
+        words[3] = self.n;
+        words[4] = self.j_max;
+        words[5] = self.used;
     }
 }
 
@@ -58,13 +52,7 @@ pub fn perillajamb_reservoir_new(
     if words.len() < 6 {
         return parts::refused(ConsistentReservoir::short_refusal(k, n));
     }
-    match ConsistentReservoir::new(k, n, key, list) {
-        Ok(r) => {
-            store(r, words);
-            0
-        }
-        Err(why) => parts::refused(why),
-    }
+    records::store_made(ConsistentReservoir::new(k, n, key, list), words)
 }
 
 // Admit.
@@ -74,9 +62,9 @@ pub fn perillajamb_reservoir_next(words: &mut [u32], list: &mut [u32]) -> u64
     if words.len() < 6 {
         return parts::refused(Refusal::ShortMemory);
     }
-    let mut r = loaded(words);
+    let mut r = ConsistentReservoir::loaded(words);
     let said = r.next(list);
-    keep(said.is_ok(), r, words);
+    records::keep(said.is_ok(), r, words);
     parts::exchange(said)
 }
 
@@ -87,9 +75,9 @@ pub fn perillajamb_reservoir_grow_layer(words: &mut [u32], list: &mut [u32]) -> 
     if words.len() < 6 {
         return parts::refused(Refusal::ShortMemory);
     }
-    let mut r = loaded(words);
+    let mut r = ConsistentReservoir::loaded(words);
     let said = r.grow_layer(list);
-    keep(said.is_ok(), r, words);
+    records::keep(said.is_ok(), r, words);
     parts::done(said)
 }
 
@@ -100,7 +88,7 @@ pub fn perillajamb_reservoir_sample(words: &[u32], list: &[u32], out: &mut [u32]
     if words.len() < 6 {
         return parts::refused(Refusal::ShortMemory);
     }
-    parts::done(loaded(words).reservoir(list, out))
+    parts::done(ConsistentReservoir::loaded(words).reservoir(list, out))
 }
 
 // Whether the record fits its list: 1 or 0.
@@ -110,5 +98,5 @@ pub fn perillajamb_reservoir_fits(words: &[u32], list: &[u32]) -> u64
     if words.len() < 6 {
         return parts::refused(Refusal::ShortMemory);
     }
-    parts::yes(loaded(words).fits(list))
+    parts::yes(ConsistentReservoir::loaded(words).fits(list))
 }

@@ -6,47 +6,41 @@ ghost use Rattle.exports.specs.Crossings.{crossed};
 ghost use Rattle.exports.specs.Slots.{ScratchAfter};
 ghost use Rattle.exports.specs.Rounds.{round_words, round_as, open_crossed, crossed_round, admit_crossed, join_crossed, withdraw_crossed, crossed_plan, plan_crossed, fits_crossed, crossed_replay, replay_crossed, ReplayScratchAs, ReplayedAs};
 
-use crate::parts;
+use crate::records::Record;
+use crate::{parts, records};
 use answers::Refusal;
 use orders::consistent_reservoir::ConsistentReservoir;
 use rounds::round::Round;
 use rounds::{replays, round};
 
-// C lends words of any length, so that there are seven is tested once in each call, and asked for by those that read and write them.
-fn loaded(words: &[u32]) -> Round
-    requires { 7 ≤ length words.now }
-    ensures { result ≡ round_as words.now }
-{
-    Round {
-        master_key: parts::joined(words[0], words[1]),
-        k: words[2],
-        n: words[3],
-        j_max: words[4],
-        used: words[5],
-        total: words[6],
+impl Record for Round {
+    type Word = u32;
+
+    ghost count = { 7 };
+
+    ghost over = { λ words r. written (round_words r) words };
+
+    ghost read = { round_as };
+
+    fn loaded(words: &[u32]) -> Self {
+        Round {
+            master_key: parts::joined(words[0], words[1]),
+            k: words[2],
+            n: words[3],
+            j_max: words[4],
+            used: words[5],
+            total: words[6],
+        }
     }
-}
 
-fn store(r: Round, words: &mut [u32])
-    requires { 7 ≤ length words.old }
-    ensures { words.new ≡ written (round_words r) words.old }
-{
-    words[0] = (r.master_key % 0x1_0000_0000) as u32;
-    words[1] = (r.master_key / 0x1_0000_0000) as u32;
-    words[2] = r.k;
-    words[3] = r.n;
-    words[4] = r.j_max;
-    words[5] = r.used;
-    words[6] = r.total;
-}
-
-// The record after a call, where that was not refused.
-fn keep(accepted: bool, r: Round, words: &mut [u32])
-    requires { 7 ≤ length words.old }
-    ensures { words.new ≡ cond accepted (written (round_words r) words.old) words.old }
-{
-    if accepted {
-        store(r, words);
+    fn store(self, words: &mut [u32]) {
+        words[0] = (self.master_key % 0x1_0000_0000) as u32;
+        words[1] = (self.master_key / 0x1_0000_0000) as u32;
+        words[2] = self.k;
+        words[3] = self.n;
+        words[4] = self.j_max;
+        words[5] = self.used;
+        words[6] = self.total;
     }
 }
 
@@ -57,13 +51,7 @@ pub fn perillajamb_round_open(key: u64, k: u32, n: u32, list: &mut [u32], words:
     if words.len() < 7 {
         return parts::refused(ConsistentReservoir::short_refusal(k, n));
     }
-    match round::open(key, k, n, list) {
-        Ok(r) => {
-            store(r, words);
-            0
-        }
-        Err(why) => parts::refused(why),
-    }
+    records::store_made(round::open(key, k, n, list), words)
 }
 
 // Admit.
@@ -73,9 +61,9 @@ pub fn perillajamb_round_admit(words: &mut [u32], list: &mut [u32], table: &[u8]
     if words.len() < 7 {
         return parts::refused(Refusal::ShortMemory);
     }
-    let mut r = loaded(words);
+    let mut r = Round::loaded(words);
     let said = r.admit(list, table);
-    keep(said.is_ok(), r, words);
+    records::keep(said.is_ok(), r, words);
     parts::exchange(said)
 }
 
@@ -86,9 +74,9 @@ pub fn perillajamb_round_join(words: &mut [u32], list: &[u32], table: &mut [u8])
     if words.len() < 7 {
         return parts::refused(Refusal::ShortMemory);
     }
-    let mut r = loaded(words);
+    let mut r = Round::loaded(words);
     let said = r.join(list, table);
-    keep(said.is_ok(), r, words);
+    records::keep(said.is_ok(), r, words);
     parts::number(said)
 }
 
@@ -104,9 +92,9 @@ pub fn perillajamb_round_withdraw(
     if words.len() < 7 {
         return parts::refused(Refusal::ShortMemory);
     }
-    let mut r = loaded(words);
+    let mut r = Round::loaded(words);
     let said = r.withdraw(list, table, slot);
-    keep(said.is_ok(), r, words);
+    records::keep(said.is_ok(), r, words);
     parts::done(said)
 }
 
@@ -125,7 +113,7 @@ pub fn perillajamb_round_plan(
     if words.len() < 7 {
         return parts::refused(Refusal::ShortMemory);
     }
-    let r = loaded(words);
+    let r = Round::loaded(words);
     parts::done(round::plan(r, list, table, locations, terminals, scratch))
 }
 
@@ -136,7 +124,7 @@ pub fn perillajamb_round_fits(words: &[u32], list: &[u32], table: &[u8]) -> u64
     if words.len() < 7 {
         return parts::refused(Refusal::ShortMemory);
     }
-    parts::yes(round::fits(loaded(words), list, table))
+    parts::yes(round::fits(Round::loaded(words), list, table))
 }
 
 // An open, calls and the plan after them.

@@ -1,9 +1,12 @@
 -- `exports::chooser::perillajamb_chooser_new` meets its contract.
 -- Assumes nothing.
+use mathlib.Core.Path.{◌∙◌}
 use borrow.Author.Tests.{lt-ltb}
 use borrow.Author.Rules.{rules}
+use Rattle.answers.specs.Refusals.{told}
 use Rattle.exports.specs.Chooser.{new_crossed}
-use Rattle.exports.proofs.ChooserCrossLaws.{new_crosses}
+use Rattle.exports.proofs.ChooserCrossLaws.{made_words, new_crosses}
+use Rattle.exports.proofs.KeptLaws.{both}
 use Rattle.exports.proofs.chooser.perillajamb_chooser_new.Goals as goal
 
 pub returns-then-words-lt3 : goal.returns-then-words-lt3
@@ -12,4 +15,4 @@ returns-then-words-lt3 c = rw (c.refused.ensures, c.short_of.ensures, lt-ltb _ 3
 
 pub returns : goal.returns
 returns c =
-    new_crosses _ (search rules) _ _ _ _ c.new.result c.new.ensures c.store_made.ensures
+    new_crosses _ (search rules) _ _ _ _ c.new.result c.new.ensures (both c.store_made.ensures.answer (c.store_made.ensures.made ∙ made_words c.args.words.now (told c.new.result)))

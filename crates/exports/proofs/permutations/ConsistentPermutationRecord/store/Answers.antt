@@ -1,10 +1,10 @@
--- `exports::permutations::store` meets its contract.
+-- `exports::permutations::ConsistentPermutationRecord::store` meets its contract.
 -- Assumes nothing.
 use borrow.Author.Rules.{rules}
 use lib.ListN.{length-set}
 use Rattle.lists.proofs.Writing.{sets_written}
 use Rattle.exports.specs.Orders.{order_words}
-use Rattle.exports.proofs.permutations.store.Goals as goal
+use Rattle.exports.proofs.permutations.ConsistentPermutationRecord.store.Goals as goal
 
 pub bounds-ws-1 : goal.bounds-ws-1
 bounds-ws-1 c = simp length-set (search rules)
@@ -61,4 +61,4 @@ pub shape_of-ws : goal.shape_of-ws
 shape_of-ws c = simp length-set
 
 pub returns : goal.returns
-returns c = sets_written (order_words c.args.o) _ c.requires
+returns c = sets_written (order_words c.args.self) _ c.requires

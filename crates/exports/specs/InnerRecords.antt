@@ -1,0 +1,9 @@
+-- What is written to a record's words: no part of a promise.
+-- Assumes nothing.
+use Rattle.std.specs.Prelude.{List}
+use Rattle.lists.specs.Told.{Told, refusal, says}
+
+-- the words after a call that makes a record: `over` says how they have it; a refusal leaves them
+abbrev pub made_over : {A W : Type 0} → (List W → A → List W) → List W → Told A → List W
+made_over over ws (says r) = over ws r
+made_over over ws (refusal w) = ws
