@@ -20,7 +20,11 @@ fn get<R: Read>(reader: &mut R, input: &mut [u8]) -> io::Result<usize>
 }
 
 // Writes out what a call put out, and answers how many bytes it had taken, unless it was refused.
-fn passed<W: Write>(told: Result<Fed, Refusal>, out: &[u8], writer: &mut W) -> io::Result<Option<usize>>
+fn passed<W: Write>(
+    told: Result<Fed, Refusal>,
+    out: &[u8],
+    writer: &mut W,
+) -> io::Result<Option<usize>>
     requires { Within told out.now }
     ensures taken { IfOk result (λ o. o ≡ taken_of told) }
     ensures written { OnOk result (Written told out.now (W.contents writer.old) (W.contents writer.new)) }
