@@ -32,36 +32,20 @@ impl Record for ConsistentPermutation {
     ghost read = { order_as };
 
     fn loaded(ws: &[u32]) -> Self {
+        let mut counters = [0; 15];
+        counters.copy_from_slice(&ws[3..18]);
         ConsistentPermutation {
             master_key: parts::joined(ws[0], ws[1]),
             n: ws[2],
-            counters: [
-                ws[3], ws[4], ws[5], ws[6], ws[7], ws[8], ws[9], ws[10], ws[11], ws[12], ws[13],
-                ws[14], ws[15], ws[16], ws[17],
-            ],
+            counters,
         }
     }
 
     fn store(self, ws: &mut [u32]) {
-        let cs = self.counters;
         ws[0] = (self.master_key % 0x1_0000_0000) as u32;
         ws[1] = (self.master_key / 0x1_0000_0000) as u32;
         ws[2] = self.n;
-        ws[3] = cs[0];
-        ws[4] = cs[1];
-        ws[5] = cs[2];
-        ws[6] = cs[3];
-        ws[7] = cs[4];
-        ws[8] = cs[5];
-        ws[9] = cs[6];
-        ws[10] = cs[7];
-        ws[11] = cs[8];
-        ws[12] = cs[9];
-        ws[13] = cs[10];
-        ws[14] = cs[11];
-        ws[15] = cs[12];
-        ws[16] = cs[13];
-        ws[17] = cs[14];
+        ws[3..18].copy_from_slice(&self.counters);
     }
 }
 
