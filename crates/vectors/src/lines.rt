@@ -7,7 +7,8 @@ use crate::{
 };
 use std::alloc::{AllocError, Global};
 
-// What a call on numbers alone says, by the line's letter.
+// What a call on numbers alone says, by the line's letter. The letter is what the file has, and each call reads other numbers, so
+// that a table of functions would be no plainer; so it is in `agrees` and in the files beside this.
 fn said(letter: u8, line: &mut Numbers<'_>) -> Option<u64> {
     if letter == b'l' || letter == b'o' {
         let first = line.word();
