@@ -17,7 +17,7 @@ impl Digest {
 
     pub(crate) fn feed_all<T: Word>(&mut self, memory: &[T]) {
         for word in memory {
-            self.feed(word.number());
+            self.feed((*word).into());
         }
     }
 

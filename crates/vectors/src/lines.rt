@@ -45,8 +45,10 @@ pub(crate) fn agrees(alloc: Global, text: &str) -> Result<bool, AllocError> {
     let Some((head, rest)) = text.split_once(' ') else {
         return Ok(false);
     };
+    let Some(&letter) = head.as_bytes().first() else {
+        return Ok(false);
+    };
     let line = Numbers::new(rest);
-    let letter = head.as_bytes().first().copied().unwrap_or(0);
     match letter {
         b'w' => Ok(histories::walk_agrees(line)),
         b'a' => histories::agrees(alloc, false, line),

@@ -2,20 +2,14 @@
 ghost use Rattle.std.specs.Prelude.{◌≤◌};
 
 // What memory holds: bytes, words of 32 bits, or words of 64.
-pub trait Word: Copy {
+pub trait Word: Copy + Into<u64> {
     // The low bits of a number.
     fn of(number: u64) -> Self;
-
-    fn number(self) -> u64;
 }
 
 impl Word for u8 {
     fn of(number: u64) -> u8 {
         (number % 0x100) as u8
-    }
-
-    fn number(self) -> u64 {
-        u64::from(self)
     }
 }
 
@@ -23,19 +17,11 @@ impl Word for u32 {
     fn of(number: u64) -> u32 {
         (number % 0x1_0000_0000) as u32
     }
-
-    fn number(self) -> u64 {
-        u64::from(self)
-    }
 }
 
 impl Word for u64 {
     fn of(number: u64) -> u64 {
         number
-    }
-
-    fn number(self) -> u64 {
-        self
     }
 }
 
@@ -50,7 +36,7 @@ impl<'a> Numbers<'a> {
         Numbers { rest }
     }
 
-    // The next number; 0 where none is left.
+    // The next number; 0 where none is left, which the comparison with the answer then finds out.
     pub(crate) fn next(&mut self) -> u64 {
         let (number, rest) = match self.rest.split_once(' ') {
             Some(parts) => parts,
@@ -80,7 +66,7 @@ impl<'a> Numbers<'a> {
     // Whether these are the next numbers.
     pub(crate) fn has<T: Word>(&mut self, memory: &[T]) -> bool {
         for word in memory {
-            if word.number() != self.next() {
+            if (*word).into() != self.next() {
                 return false;
             }
         }
