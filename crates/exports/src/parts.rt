@@ -1,5 +1,6 @@
-// Answers as the one number that crosses, and the numbers of two words.
-ghost use Rattle.std.specs.Prelude.{◌≡◌, ◌+◌, ◌*◌, ◌^◌, ◌<◌, OnOk};
+// Answers as the one number that crosses, and the numbers of two words. Each kind of value has a `match` of its own: one over a
+// closure that gives the value's number would be called in as many lines, and its promise would speak of the closure.
+ghost use Rattle.std.specs.Prelude.{◌≡◌, ◌+◌, ◌*◌, ◌/◌, ◌%◌, ◌^◌, ◌<◌, OnOk};
 ghost use Rattle.answers.specs.Refusals.{number, told, told_option};
 ghost use Rattle.orders.specs.ReservoirCalls.{told_exchange};
 ghost use Rattle.exports.specs.Coded.{truth, coded_done, coded_number, coded_hash};
@@ -107,6 +108,13 @@ pub(crate) fn joined(low: u32, high: u32) -> u64
     ensures { result ≡ high * 2 ^ 32 + low }
 {
     u64::from(high) * 0x1_0000_0000 + u64::from(low)
+}
+
+// A key as two words, the low one first.
+pub(crate) fn parted(key: u64) -> (u32, u32)
+    ensures { result ≡ (key % 2 ^ 32, key / 2 ^ 32) }
+{
+    ((key % 0x1_0000_0000) as u32, (key / 0x1_0000_0000) as u32)
 }
 
 // Yes as 1, no as 0.

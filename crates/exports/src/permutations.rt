@@ -42,8 +42,9 @@ impl Record for ConsistentPermutation {
     }
 
     fn store(self, ws: &mut [u32]) {
-        ws[0] = (self.master_key % 0x1_0000_0000) as u32;
-        ws[1] = (self.master_key / 0x1_0000_0000) as u32;
+        let (low, high) = parts::parted(self.master_key);
+        ws[0] = low;
+        ws[1] = high;
         ws[2] = self.n;
         ws[3..18].copy_from_slice(&self.counters);
     }

@@ -30,8 +30,9 @@ impl Record for ConsistentReservoir {
     }
 
     fn store(self, words: &mut [u32]) {
-        words[0] = (self.master_key % 0x1_0000_0000) as u32;
-        words[1] = (self.master_key / 0x1_0000_0000) as u32;
+        let (low, high) = parts::parted(self.master_key);
+        words[0] = low;
+        words[1] = high;
         words[2] = self.k;
         words[3] = self.n;
         words[4] = self.j_max;

@@ -9,4 +9,4 @@ pub returns : goal.returns
 returns c =
     let h = c.requires in
     let copied = c.copy_from_slice.ensures in
-    order_stored c.args.self c.args.ws.now c.copy_from_slice.new.self h copied.after (copied.len ∙ simp (length-take, length-drop, length-set) (omega arith))
+    rw c.parted-low.ensures (order_stored c.args.self c.args.ws.now c.copy_from_slice.new.self h copied.after (copied.len ∙ simp (length-take, length-drop, length-set) (omega arith)))

@@ -19,4 +19,4 @@ pub bounds-words-4 : goal.bounds-words-4
 bounds-words-4 c = simp length-set (search rules)
 
 pub returns : goal.returns
-returns c = sets_written (words_of c.args.self) _ c.requires
+returns c = rw c.parted-low.ensures (sets_written (words_of c.args.self) _ c.requires)

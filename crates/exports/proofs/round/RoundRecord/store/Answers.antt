@@ -22,4 +22,4 @@ pub bounds-words-5 : goal.bounds-words-5
 bounds-words-5 c = simp length-set (search rules)
 
 pub returns : goal.returns
-returns c = sets_written (round_words c.args.self) _ c.requires
+returns c = rw c.parted-low.ensures (sets_written (round_words c.args.self) _ c.requires)
