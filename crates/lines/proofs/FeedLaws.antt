@@ -12,16 +12,14 @@ use lib.ListN.{length, take, drop, get_or, length-append, length-take, length-dr
 use lib.Seq.{take_at, take_all, drop-drop, length-take-le, drop-cons}
 use Rattle.std.specs.Prelude.{Option, Some, None}
 use Rattle.std.specs.List.{position_or_len, position}
-use Rattle.lists.specs.Told.{Told, refusal, says}
+use Rattle.lists.specs.Told.{refusal, says}
 use Rattle.lists.specs.Lists.{written}
 use Rattle.lists.proofs.Tests.{by_test, by_below}
 use Rattle.lines.specs.Replies.{text_of}
-use Rattle.lines.specs.Commands.{parse_call}
-use Rattle.lines.specs.Sessions.{World, world, site, Response, respond, answered}
-use Rattle.lines.specs.Streams.{Progress, progress, byte, fed_part, fed_up_to, room_for, count, AfterFeed, after_feed, feed_call, end_call}
-use Rattle.lines.specs.InnerLines.{reply_of, Put}
+use Rattle.lines.specs.Sessions.{World, Response, respond}
+use Rattle.lines.specs.Streams.{Progress, progress, byte, fed_part, fed_up_to, room_for, count, after_feed, feed_call, end_call}
+use Rattle.lines.specs.InnerLines.{Put}
 use Rattle.lines.specs.InnerSessions.{Holds, Stepped, Took}
-use Rattle.lines.specs.declared.commands.Command.{Command}
 use Rattle.lines.proofs.PutLaws.{put_none, put_written}
 use Rattle.lines.proofs.HeldLaws.{take_cut, respond_first}
 use Rattle.lines.proofs.StreamLaws.{byte_line, byte_held}

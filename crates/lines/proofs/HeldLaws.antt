@@ -1,13 +1,12 @@
 -- Of a line the first 81 bytes are held: they ask for what the line asks for.
 -- Assumes nothing.
 use mathlib.Core.Path.{◌≡◌, refl, sym, ap, ◌∙◌}
-use mathlib.Core.List.{List, [], ◌∷◌, ◌++◌, append_assoc, append-nil}
+use mathlib.Core.List.{List, [], ◌∷◌, ◌++◌}
 use Prim.Native.Nat.{ℕ, zero, suc, ◌+◌, ◌-◌, ◌≤◌, ◌<◌, min}
 use native.Mathlib.Omega.{arith}
-use native.Mathlib.Numerals.{add-one}
 use lib.ListN.{length, take, length-append, length-take}
 use Rattle.lists.proofs.Tests.{by_below}
-use lib.Seq.{take-append-add, take-suc, take-suc-set, take_at, take_all, length-take-le}
+use lib.Seq.{take-append-add, take_all, length-take-le}
 use borrow.Rule.Slice.PartMut.{put_mid}
 use Rattle.std.proofs.lemmas.Slice.{take-put_mid}
 use Rattle.lines.specs.Sessions.{World, respond}

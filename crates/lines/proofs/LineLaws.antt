@@ -5,7 +5,10 @@ use mathlib.Core.List.{List}
 use Prim.Native.Nat.{ℕ}
 use lib.ListN.{take}
 use Rattle.std.proofs.Math.Option as maybe
-use Rattle.std.specs.Prelude.{Option, Some, None, Ok}
+use Rattle.std.proofs.Common.{MutBor}
+use Rattle.std.specs.Prelude.{Option, Some, None, Ok, Err}
+use Rattle.std.specs.Option.{ok_or, option_copied_mut}
+use Rattle.answers.specs.declared.Refusal.{Refusal}
 use Rattle.lists.specs.Told.{Told, refusal, says, map_told}
 use Rattle.lists.proofs.Tolds.{not_said}
 use Rattle.orders.specs.ReservoirCalls as Reservoir
@@ -44,6 +47,17 @@ module _ (key k n : ℕ) (l after t : List ℕ) (c : Option Round) where
       let same : after ≡ l = ap (λ (x : AfterOpen). x.list) is ∙ open_keeps key k n l w told in
       ap (λ (x : List ℕ). said (Replies.refused w) (site c x t)) same
       ∙ ap (λ (x : Told Round). replaced (site c l t) x (open_call key k n l).list) (sym told)
+
+-- ---- the round that a call is on
+
+-- an option that `ok_or` refuses for is none, and the refusal is that one
+pub none_had : {A : Type 0} (o : Option A) (w why : Refusal) → Err why ≡ ok_or o w → (o ≡ None) × (why ≡ w)
+none_had None w why is = (refl, cc)
+none_had (Some s) w why is = cc
+
+-- what is lent out of an option says what it is
+pub lent_is : (c : Option Round) (o x : Option (MutBor Round)) → option_copied_mut o ≡ c → o ≡ x → c ≡ option_copied_mut x
+lent_is c o x lent is = sym lent ∙ ap option_copied_mut is
 
 -- ---- admit, join, withdraw
 

@@ -6,21 +6,21 @@ use mathlib.Core.Option.{Option, none, some}
 use Prim.Native.Nat.{ℕ, zero, suc, ◌+◌, ◌-◌, ◌*◌, ◌/◌, ◌%◌, ◌^◌, ◌≤◌, ◌<◌}
 use native.Mathlib.Numerals.{add-one}
 use native.Mathlib.Omega.{arith}
-use lib.ListN.{length, get_or, take, drop, set, length-append, length-take, length-drop, take-append-drop, drop_of_length-le}
-use lib.Seq.{append_snoc, set_at, set_split, take_at, drop_at, take-suc, take_all, drop-drop, length-take-le}
+use lib.ListN.{length, take, drop, set, length-append, take-append-drop, drop_of_length-le}
+use lib.Seq.{append_snoc, set_split, take_at, drop_at, drop-drop, length-take-le}
 use Rattle.std.proofs.lemmas.List.{drop-set}
 use borrow.Rule.Slice.PartMut.{put_mid}
 use Rattle.lists.specs.Lists.{written}
 use Rattle.lists.proofs.Tests.{by_below}
 use Rattle.rounds.specs.Plans.{Sheet, sheet, sheets}
-use Rattle.lines.specs.Replies.{decimal_of, slot_text, place_line, place_lines, text_of}
+use Rattle.lines.specs.Replies.{decimal_of, slot_text, place_line, place_lines}
 use Rattle.lines.specs.InnerLines.{Put, Puts}
 use Rattle.lines.specs.declared.texts.Text.{Text}
 use Rattle.std.specs.Prelude as rust
 use Rattle.std.specs.List.{zip, range_with_len}
 use Rattle.std.proofs.lemmas.Iterator.{YieldsList}
 use Rattle.lines.proofs.FieldLaws.{next_some, next_none}
-use Rattle.lines.proofs.DecimalLaws.{decimal_one, decimal_snoc, decimal_pos, length_decimal, length_tabbed}
+use Rattle.lines.proofs.DecimalLaws.{decimal_one, decimal_snoc, length_decimal, length_tabbed}
 
 -- ---- one text after another
 

@@ -32,9 +32,7 @@ fn open(
 fn admit(current: &mut Option<Round>, list: &mut [u32], table: &[u8]) -> Result<Answer, Refusal>
     ensures { (ls ts : List ℕ) → said (reply_of result ls ts) (site current.new list.new table.now) ≡ admit_line (site current.old list.old table.now) }
 {
-    let Some(round) = current else {
-        return Err(Refusal::Misfit);
-    };
+    let round = current.as_mut().ok_or(Refusal::Misfit)?;
     let exchange = round.admit(list, table)?;
     Ok(Answer::Admitted(exchange))
 }
@@ -42,9 +40,7 @@ fn admit(current: &mut Option<Round>, list: &mut [u32], table: &[u8]) -> Result<
 fn join(current: &mut Option<Round>, list: &[u32], table: &mut [u8]) -> Result<Answer, Refusal>
     ensures { (ls ts : List ℕ) → said (reply_of result ls ts) (site current.new list.now table.new) ≡ join_line (site current.old list.now table.old) }
 {
-    let Some(round) = current else {
-        return Err(Refusal::Misfit);
-    };
+    let round = current.as_mut().ok_or(Refusal::Misfit)?;
     let slot = round.join(list, table)?;
     Ok(Answer::Joined(slot))
 }
@@ -57,9 +53,7 @@ fn withdraw(
 ) -> Result<Answer, Refusal>
     ensures { (ls ts : List ℕ) → said (reply_of result ls ts) (site current.new list.now table.new) ≡ withdraw_line slot (site current.old list.now table.old) }
 {
-    let Some(round) = current else {
-        return Err(Refusal::Misfit);
-    };
+    let round = current.as_mut().ok_or(Refusal::Misfit)?;
     round.withdraw(list, table, slot)?;
     Ok(Answer::Withdrawn(slot))
 }
@@ -74,9 +68,7 @@ fn plan(
 ) -> Result<Answer, Refusal>
     ensures { response (reply_of result locations.new terminals.new) (world (site current list.now table.now) locations.new terminals.new (length scratch.old)) ≡ plan_line (world (site current list.now table.now) locations.old terminals.old (length scratch.old)) }
 {
-    let Some(round) = current else {
-        return Err(Refusal::Misfit);
-    };
+    let round = current.ok_or(Refusal::Misfit)?;
     round::plan(round, list, table, locations, terminals, scratch)?;
     Ok(Answer::Planned(round.k))
 }
@@ -104,8 +96,8 @@ fn act(
     }
 }
 
-// Answers a line: what is put out stands behind the text so far. The lists come one by one, since there is no rule yet for two
-// shared loans out of a struct that is lent itself.
+// Answers a line: what is put out stands behind the text so far. The lists come one by one (tried: two shared loans out of
+// fields that are themselves `&mut`, of a struct that is lent, have no rule where a proof is due, so the proof did not close).
 pub(crate) fn answer(
     current: &mut Option<Round>,
     line: &[u8],

@@ -18,7 +18,7 @@ pub enum Command {
 
 // ---- numbers
 
-// The number that digits of a base write.
+// The number that digits of a base write. By hand, since std's `parse` and `from_str_radix` take a plus sign in front.
 fn value(digits: &[u8], base: u32) -> Option<u64>
     requires base_bound { (2 ≤ base) × (base ≤ 16) }
     requires digits_bound { length digits.now ≤ 16 }

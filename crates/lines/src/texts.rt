@@ -46,6 +46,7 @@ pub struct Text<'a> {
     pub ghost fits: { len ≤ length out.now },
 }
 
+// `SameList` in each contract: a struct's field that is `&mut` could be another list after a call, so each says that it is the same.
 impl Text<'_> {
     ghost use Rattle.lines.specs.InnerLines.{HasRoom, SameList, Puts, admitted_reply, line_of, reply_of};
 

@@ -1,6 +1,6 @@
 -- What the program's own functions ask and promise of what a call says and puts out.
 -- Assumes nothing.
-use Rattle.std.specs.Prelude.{◌≡◌, List, ℕ, ◌≤◌, length, take, Option, Some, None, Result, Ok, Err}
+use Rattle.std.specs.Prelude.{List, ℕ, ◌≤◌, length, take, Option, Some, None, Result, Ok, Err}
 use Rattle.std.specs.Io.KnownBytes.{Keeps, Appends}
 use Rattle.answers.specs.declared.Refusal.{Refusal}
 use Rattle.lines.specs.declared.sessions.Fed.{Fed}

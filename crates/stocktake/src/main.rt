@@ -81,19 +81,11 @@ fn run<R: Read, W: Write>(
     Ok(())
 }
 
-// Room for a piece of the input. Made in a function of its own, as the next is, so that main's proof has the length only and not
-// the list.
-fn input_buffer() -> [u8; 65536]
-    ensures { 65536 ≡ length result }
+// Room for bytes. Made in a function of its own, so that main's proof has the length only and not the list.
+fn buffer<const N: usize>() -> [u8; N]
+    ensures { N ≡ length result }
 {
-    [0; 65536]
-}
-
-// Room for the longest plan and more.
-fn answers_buffer() -> [u8; 400000]
-    ensures { 400000 ≡ length result }
-{
-    [0; 400000]
+    [0; N]
 }
 
 fn main(rt: HostRuntime) -> io::Result<()> {
@@ -103,8 +95,9 @@ fn main(rt: HostRuntime) -> io::Result<()> {
     let mut terminals = [0u32; 8192];
     let mut scratch = [0u64; 512];
     let mut line = [0u8; 81];
-    let mut input = input_buffer();
-    let mut out = answers_buffer();
+    let mut input = buffer::<65536>();
+    // Room for the longest plan and more.
+    let mut out = buffer::<400000>();
     let mut memory = Memory {
         list: &mut list,
         table: &mut table,

@@ -1,7 +1,7 @@
 -- `lines::texts::spell` meets its contract.
 -- Assumes nothing.
 use native.Mathlib.Omega.{arith}
-use Rattle.lines.proofs.PutLaws.{spelling_more, spelling_start, spelling_end}
+use Rattle.lines.proofs.PutLaws.{spelling_more}
 use Rattle.lines.proofs.texts.spell.Goals as goal
 
 pub loop-i-preserved : goal.loop-i-preserved

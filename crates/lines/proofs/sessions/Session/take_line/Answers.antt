@@ -2,7 +2,6 @@
 -- Assumes nothing.
 use mathlib.Core.Path.{refl, sym}
 use native.Mathlib.Omega.{arith}
-use lib.Seq.{length-take-le}
 use Rattle.lines.proofs.FeedLaws.{end_some, end_none, step_line, step_held}
 use Rattle.lines.proofs.sessions.Session.take_line.Goals as goal
 
