@@ -135,12 +135,7 @@ fn run(
 fn all_known(calls: &[u64]) -> bool
     ensures { result ≡ every known calls.now }
 {
-    for code in calls {
-        if Call::try_from(*code).is_err() {
-            return false;
-        }
-    }
-    true
+    calls.iter().all(|code| Call::try_from(*code).is_ok())
 }
 
 // Opens a round, makes the calls on it, and plans: refusals 12 for a number that is no call, then open's, 4 also for too short a list

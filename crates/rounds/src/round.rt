@@ -60,12 +60,8 @@ fn with_reservoir(r: Round, a: ConsistentReservoir) -> Round
     ensures { result ≡ with_reservoir r a }
 {
     Round {
-        master_key: a.master_key,
-        k: a.k,
-        n: a.n,
-        j_max: a.j_max,
-        used: a.used,
         total: r.total,
+        ..begin(a)
     }
 }
 
