@@ -169,17 +169,10 @@ fn deal(
     ensures locations_after { locations.new ≡ written (sample (reservoir_of r) list.now) locations.old }
     ensures terminals_after { terminals.new ≡ written (map (dealt_to r.master_key r.total table.now (length scratch.old)) (sample (reservoir_of r) list.now)) terminals.old }
 {
-    let n = r.n;
-    let key = r.master_key;
-    let total = r.total;
-    let mut p: usize = 0;
-    for x in &list[..r.used as usize] {
-        if n <= *x {
-            continue;
-        }
-        locations[p] = *x;
-        terminals[p] = terminal(key, total, table, *x, scratch);
-        p += 1;
+    let sampled = list[..r.used as usize].iter().filter(|x| **x < r.n);
+    for (place, x) in sampled.enumerate() {
+        locations[place] = *x;
+        terminals[place] = terminal(r.master_key, r.total, table, *x, scratch);
     }
 }
 
