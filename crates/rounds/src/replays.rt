@@ -42,6 +42,7 @@ impl TryFrom<u64> for Call {
 }
 
 // What a call says: the refusal's number or 0, how many values there are, and two places for them.
+// Four words, as C reads a replay's answers, and one function for each kind of answer.
 fn of_exchange(said: Result<Option<Exchange>, Refusal>) -> [u32; 4]
     ensures { result ≡ coded (map_told exchanged (told_exchange said)) }
 {
