@@ -1,22 +1,25 @@
 -- The sampled locations and their slots, written place by place from the front.
 -- Assumes nothing.
 use mathlib.Core.Path.{◌≡◌, refl, sym, ap, ◌∙◌}
-use mathlib.Core.List.{List, [], ◌∷◌, ◌++◌, append-nil, map, map-append}
+use mathlib.Core.List.{List, [], ◌∷◌, ◌++◌, map, map-append}
 use mathlib.Core.Option
 use mathlib.Core.Option.{Option}
 use Prim.Native.Nat.{ℕ, ◌+◌, ◌<◌, ◌≤◌}
 use native.Mathlib.Numerals.{add-one}
 use native.Mathlib.Omega.{arith}
 use lib.ListN.{length, take, get_or, set, length-map}
-use lib.Seq.{take-suc, take-take, length-take-le}
-use Rattle.std.proofs.lemmas.List.{get_or-take}
+use lib.Seq.{take-suc, length-take-le}
 use Rattle.std.specs.Prelude as rust
-use Rattle.lists.specs.Lists.{keep, below, written}
+use denote.Ref.{Bor}
+use Rattle.std.specs.Iterator.{Yields}
+use Rattle.std.proofs.lemmas.Iterator.{YieldsList}
+use Rattle.std.proofs.lemmas.Iterator.Consumers.{YieldsList-turn, YieldsList-end}
+use Rattle.std.specs.List.{filter, enumerate_from}
+use Rattle.std.proofs.lemmas.List.FromFn.{length-enumerate_from, get_or-enumerate_from}
+use Rattle.std.proofs.Math.Seq.{take-length}
+use mathlib.Core.Bool.{Bool, true, false, cond}
+use Rattle.lists.specs.Lists.{put, keep, below, written}
 use Rattle.answers.specs.Refusals.{optional}
-use Rattle.lists.proofs.Tests.{below_yes, below_no}
-use Rattle.lists.proofs.Ascending.{length_snoc}
-use Rattle.lists.proofs.Members.{keep_append}
-use Rattle.lists.proofs.Prefixes.{keep_take_le}
 use Rattle.lists.proofs.Writing.{written_more}
 use Rattle.orders.specs.ReservoirCalls.{sample}
 use Rattle.choosers.specs.Slots.{state_of}
@@ -40,98 +43,70 @@ slot_found key x total places s t o e f = unwrapped o ∙ ap (λ (z : Option ℕ
 pub slot_lent : (key total : ℕ) (t : List ℕ) (x s places lent : ℕ) → s ≡ dealt_to key total t places x → places ≡ lent → s ≡ dealt_to key total t lent x
 slot_lent key total t x s places lent e h = e ∙ ap (λ (q : ℕ). dealt_to key total t q x) h
 
--- ---- the numbers below n among the first i
+-- ---- the sample as the loop filters it
 
-abbrev pub firsts : ℕ → List ℕ → ℕ → List ℕ
-firsts n list i = keep (below n) (take i list)
+filter_is_keep : (p : ℕ → Bool) (xs : List ℕ) → filter p xs ≡ keep p xs
+filter_is_keep p [] = refl
+filter_is_keep p (x ∷ xs) = by_test (p x) (filter_is_keep p xs)
+  where
+    by_test : (b : Bool) {l m : List ℕ} → l ≡ m → cond b (x ∷ l) l ≡ put b x m
+    by_test true e = ap (λ (l : List ℕ). x ∷ l) e
+    by_test false e = e
 
-module _ (n : ℕ) (list : List ℕ) (i : ℕ) where
-  module _ (lt : i < length list) where
-    firsts_next : firsts n list (i + 1) ≡ firsts n list i ++ keep (below n) (get_or list i 0 ∷ [])
-    firsts_next = rw (add-one i, take-suc list i 0 lt) (keep_append (below n) (take i list) (get_or list i 0 ∷ []))
-
-    firsts_yes : get_or list i 0 < n → firsts n list (i + 1) ≡ firsts n list i ++ (get_or list i 0 ∷ [])
-    firsts_yes y = firsts_next ∙ rw (below_yes (get_or list i 0) n y)
-
-    firsts_no : n ≤ get_or list i 0 → firsts n list (i + 1) ≡ firsts n list i
-    firsts_no y = firsts_next ∙ rw (below_no (get_or list i 0) n y, append-nil)
-
-  firsts_le : (used : ℕ) → i ≤ used → length (firsts n list i) ≤ length (firsts n list used)
-  firsts_le used h = rw (take-take i used list h) at (keep_take_le (below n) i (take used list))
+pub filter_is_sample : (r : Round) (list : List ℕ) → filter (below r.n) (take r.used list) ≡ sample (reservoir_of r) list
+unfolding sample
+filter_is_sample r list = filter_is_keep (below r.n) (take r.used list)
 
 -- ---- the loop
 
--- once i numbers are looked at, of which p are below n
-pub record Dealt (f : ℕ → ℕ) (n : ℕ) (list oldLocations oldTerminals : List ℕ) (i p : ℕ) (locations terminals : List ℕ) : Type 0 where
-  pub counted : p ≡ length (firsts n list i)
-  pub located : locations ≡ written (firsts n list i) oldLocations
-  pub served : terminals ≡ written (map f (firsts n list i)) oldTerminals
+-- once the first i of xs are dealt
+pub record Dealt (f : ℕ → ℕ) (xs oldLocations oldTerminals : List ℕ) (i : ℕ) (locations terminals : List ℕ) : Type 0 where
+  pub located : locations ≡ written (take i xs) oldLocations
+  pub served : terminals ≡ written (map f (take i xs)) oldTerminals
 
-pub dealt_start : (f : ℕ → ℕ) (n : ℕ) (list ls ts : List ℕ) → Dealt f n list ls ts 0 0 ls ts
-unfolding written
-dealt_start f n list ls ts = record { counted = refl; located = refl; served = refl }
+module _ (f : ℕ → ℕ) (xs ls ts : List ℕ) where
+  pub dealt_start : Dealt f xs ls ts 0 ls ts
+  unfolding written
+  dealt_start = record { located = refl; served = refl }
 
-module _ (f : ℕ → ℕ) (r : Round) (list ls ts : List ℕ)
-    (room : (r.used ≤ length list) × (length (sample (reservoir_of r) list) ≤ length ls) × (length (sample (reservoir_of r) list) ≤ length ts))
-    (i p : ℕ) (locations terminals : List ℕ) (d : Dealt f r.n list ls ts i p locations terminals) where
-  -- the numbers that the loop looks at are the first `used` of the list
-  used : length (take r.used list) ≡ r.used
-  used = length-take-le r.used list room.0
-
-  pub dealt_done : length (take r.used list) ≤ i → i ≤ length (take r.used list)
-      → (locations ≡ written (sample (reservoir_of r) list) ls) × (terminals ≡ written (map f (sample (reservoir_of r) list)) ts)
-  unfolding sample
-  dealt_done g h =
-      let e : i ≡ r.used = omega (arith, used) in (
-        d.located ∙ ap (λ (j : ℕ). written (firsts r.n list j) ls) e,
-        d.served ∙ ap (λ (j : ℕ). written (map f (firsts r.n list j)) ts) e,
-      )
-
-  module _ (in_list : i < length (take r.used list)) where
-    lt : i < r.used
-    lt = omega (arith, used)
-
-    pub read : get_or (take r.used list) i 0 ≡ get_or list i 0
-    read = get_or-take r.used list i 0 lt
-
-    room_at : get_or list i 0 < r.n → (p < length ls) × (p < length ts)
-    unfolding sample
-    room_at y =
-        let b = firsts_le r.n list (i + 1) r.used (omega (arith, lt)) in
-        let e = ap length (firsts_yes r.n list i (omega (arith, lt)) y) ∙ length_snoc (firsts r.n list i) (get_or list i 0) in
-        let c = d.counted in
-        (omega arith, omega arith)
-
-    pub dealt_room : get_or (take r.used list) i 0 < r.n → (p < length ls) × (p < length ts)
-    dealt_room y = room_at (rw read at y)
-
-    pub dealt_yes : get_or (take r.used list) i 0 < r.n → (s : ℕ) → s ≡ f (get_or (take r.used list) i 0)
-        → Dealt f r.n list ls ts (i + 1) (p + 1) (set locations p (get_or (take r.used list) i 0)) (set terminals p s)
-    dealt_yes y s e = rw read (yes_at (rw read at y) (rw read at e))
-      where
-        yes_at : get_or list i 0 < r.n → s ≡ f (get_or list i 0) → Dealt f r.n list ls ts (i + 1) (p + 1) (set locations p (get_or list i 0)) (set terminals p s)
-        yes_at y e =
-            let x = get_or list i 0 in
-            let xs = firsts r.n list i in
-            let more : firsts r.n list (i + 1) ≡ xs ++ (x ∷ []) = firsts_yes r.n list i (omega (arith, lt)) y in
-            let c = d.counted in
-            record {
-              counted = omega (arith, ap length more, length_snoc xs x);
-              located =
-                  ap (λ (z : List ℕ). set z p x) d.located
-                  ∙ written_more xs ls p x c (room_at y).0
-                  ∙ ap (λ (z : List ℕ). written z ls) (sym more);
-              served =
-                  (λ j. set (d.served j) p (e j))
-                  ∙ written_more (map f xs) ts p (f x) (c ∙ sym (length-map xs f)) (room_at y).1
-                  ∙ ap (λ (z : List ℕ). written z ts) (sym (ap (map f) more ∙ map-append f xs (x ∷ [])));
-            }
-
-    pub dealt_no : r.n ≤ get_or (take r.used list) i 0 → Dealt f r.n list ls ts (i + 1) p locations terminals
-    dealt_no y =
-        let same = sym (firsts_no r.n list i (omega (arith, lt)) (rw read at y)) in
+  module _ (i : ℕ) (locations terminals : List ℕ) (d : Dealt f xs ls ts i locations terminals) where
+    pub dealt_more : i < length xs → length xs ≤ length ls → length xs ≤ length ts → (p x s : ℕ) → p ≡ i → x ≡ get_or xs i x → s ≡ f x
+        → Dealt f xs ls ts (i + 1) (set locations p x) (set terminals p s)
+    dealt_more h l t p x s e q g =
+        let more : take (i + 1) xs ≡ take i xs ++ (x ∷ []) =
+        rw add-one (take-suc xs i x h) ∙ ap (λ (y : ℕ). take i xs ++ (y ∷ [])) (sym q) in
+        let long : p ≡ length (take i xs) = e ∙ sym (length-take-le i xs (omega (arith, h))) in
         record {
-          counted = d.counted ∙ ap length same;
-          located = d.located ∙ ap (λ (z : List ℕ). written z ls) same;
-          served = d.served ∙ ap (λ (z : List ℕ). written (map f z) ts) same;
+          located =
+              ap (λ (z : List ℕ). set z p x) d.located
+              ∙ written_more (take i xs) ls p x long (omega (arith, e, h, l))
+              ∙ ap (λ (z : List ℕ). written z ls) (sym more);
+          served =
+              (λ j. set (d.served j) p (g j))
+              ∙ written_more (map f (take i xs)) ts p (f x) (long ∙ sym (length-map (take i xs) f)) (omega (arith, e, h, t))
+              ∙ ap (λ (z : List ℕ). written z ts) (sym (ap (map f) more ∙ map-append f (take i xs) (x ∷ [])));
         }
+
+    pub dealt_end : i ≡ length xs → (locations ≡ written xs ls) × (terminals ≡ written (map f xs) ts)
+    dealt_end e =
+        let all : take i xs ≡ xs = ap (λ (k : ℕ). take k xs) e ∙ take-length xs in (
+          d.located ∙ ap (λ (z : List ℕ). written z ls) all,
+          d.served ∙ ap (λ (z : List ℕ). written (map f z) ts) all,
+        )
+
+-- ---- a turn of `enumerate`: the place is the index, and the number is the one there
+
+from_zero : (p i : ℕ) → p ≡ 0 + i → p ≡ i
+from_zero p i e = omega (arith, e)
+
+module _ {S : Type 0} {steps : S → rust.Option (ℕ × Bor ℕ) → S → Type 0} {s : S} (xs : List ℕ) (w : YieldsList steps (λ p. (p.0, p.1.now)) s (enumerate_from 0 xs))
+    (ys : List (ℕ × Bor ℕ)) (t : S) (y : Yields steps s ys t) (u : S) where
+  pub numbered_turn : (p : ℕ) (x : Bor ℕ) → steps t (rust.Some (p, x)) u → (length ys < length xs) × (p ≡ length ys) × (x.now ≡ get_or xs (length ys) x.now)
+  numbered_turn p x turns =
+      let at : (length ys < length (enumerate_from 0 xs)) × ((p, x.now) ≡ get_or (enumerate_from 0 xs) (length ys) (p, x.now)) = YieldsList-turn w ys t y (rust.Some (p, x)) u (p, x) refl turns in
+      let lt : length ys < length xs = omega (arith, at.0, length-enumerate_from 0 xs) in
+      let q : (p, x.now) ≡ (0 + length ys, get_or xs (length ys) x.now) = at.1 ∙ get_or-enumerate_from 0 xs (length ys) (p, x.now) lt in
+      (lt, from_zero p (length ys) (ap (λ (z : ℕ × ℕ). z.0) q), ap (λ (z : ℕ × ℕ). z.1) q)
+
+  pub numbered_end : steps t rust.None u → length ys ≡ length xs
+  numbered_end ends = (YieldsList-end w ys t y rust.None u refl ends).1 ∙ length-enumerate_from 0 xs

@@ -1,7 +1,7 @@
 -- A call by its number, the answers written one after the other, and what replay leaves by its tests.
 -- Assumes nothing.
 use mathlib.Core.Path.{◌≡◌, refl, sym, ap, ◌∙◌}
-use mathlib.Core.Bool.{Bool, true, false, true≢false}
+use mathlib.Core.Bool.{Bool, ◌&&◌, true, false, true≢false}
 use mathlib.Core.List.{List, [], ◌∷◌, ◌++◌, map, append_assoc, append-nil}
 use Prim.Native.Nat.{ℕ, ◌+◌, ◌*◌, ◌/◌, ◌≤◌, ◌<◌}
 use native.Mathlib.Numerals.{add-one}
@@ -11,10 +11,11 @@ use lib.ListN.{length, take, drop, get_or, length-append, length-map, drop_of_le
 use lib.Seq.{drop-cons, drop-append-add, drop-drop, take_at, get_or_at, length-take-le}
 use Rattle.lists.specs.Told.{Told, refusal, says, map_told}
 use Rattle.std.proofs.Math.Seq.{take-length}
+use Rattle.std.specs.List.{list_all}
 use Rattle.lists.specs.Lists.{every, written}
 use Rattle.lists.proofs.Ranges.{every_place}
 use Rattle.orders.specs.ReservoirCalls.{short_refusal}
-use Rattle.std.specs.Prelude.{Result, Ok, Err, is_ok, is_err}
+use Rattle.std.specs.Prelude.{Result, Ok, Err, is_ok}
 use Rattle.answers.specs.declared.Refusal.{Refusal}
 use Rattle.answers.specs.Refusals.{number, told}
 use Rattle.rounds.specs.declared.replays.Call as numbered
@@ -26,24 +27,16 @@ use Rattle.rounds.specs.Histories.{nothing_said, call, after_all, all_said}
 use Rattle.rounds.specs.Replays.{known, call_of, coded, coded_all, after_replay, run_of, replay_call, ScratchRun}
 use Rattle.rounds.specs.InnerReplays.{as_call, Reads, placed_at, Stepped, stepped, step_of}
 
--- ---- the test of the numbers, from place i on
+-- ---- the test of the numbers
 
 rest_cons : (codes : List ℕ) (i : ℕ) → i < length codes → drop i codes ≡ get_or codes i 0 ∷ drop (i + 1) codes
 rest_cons codes i h = rw (add-one, drop-cons codes i 0 h)
 
-pub known_turn : (codes : List ℕ) (i : ℕ) {b : Bool} → i < length codes → known (get_or codes i 0) ≡ true
-    → every known (drop i codes) ≡ b → every known (drop (i + 1) codes) ≡ b
+-- the library's `all` is `every`
+pub known_all : (codes : List ℕ) → list_all known codes ≡ every known codes
 unfolding every
-known_turn codes i h y e = rw (rest_cons codes i h, y) at e
-
-pub known_stop : (codes : List ℕ) (i : ℕ) {b : Bool} → i < length codes → known (get_or codes i 0) ≡ false
-    → every known (drop i codes) ≡ b → false ≡ b
-unfolding every
-known_stop codes i h y e = rw (rest_cons codes i h, y) at e
-
-pub known_end : (codes : List ℕ) (i : ℕ) {b : Bool} → length codes ≤ i → every known (drop i codes) ≡ b → true ≡ b
-unfolding every
-known_end codes i h e = rw (drop_of_length-le codes h) at e
+known_all [] = refl
+known_all (x ∷ codes) = ap (λ (b : Bool). known x && b) (known_all codes)
 
 pub known_at : (codes : List ℕ) (i : ℕ) → every known codes ≡ true → i < length codes → known (get_or codes i 0) ≡ true
 known_at codes i e h = every_place known codes (length codes) i (rw (take-length codes) e) h h
@@ -54,13 +47,9 @@ known_at codes i e h = every_place known codes (length codes) i (rw (take-length
 pub read_call : (x : ℕ) (c : numbered.Call) (r : Result numbered.Call Refusal) → Reads x r → r ≡ Ok c → as_call c ≡ call_of x
 read_call x c r p e = (rw e at p).1
 
-pub reads_known : (x : ℕ) (r : Result numbered.Call Refusal) → Reads x r → is_err r ≡ false → known x ≡ true
-reads_known x (Ok c) p e = p.0
-reads_known x (Err w) p e = let z : true ≡ false = e in absurd (true≢false z)
-
-pub reads_unknown : (x : ℕ) (r : Result numbered.Call Refusal) → Reads x r → is_err r ≡ true → known x ≡ false
-reads_unknown x (Ok c) p e = let z : true ≡ false = sym e in absurd (true≢false z)
-reads_unknown x (Err w) p e = p.0
+pub reads_is : (x : ℕ) (r : Result numbered.Call Refusal) → Reads x r → is_ok r ≡ known x
+reads_is x (Ok c) p = sym p.0
+reads_is x (Err w) p = sym p.0
 
 pub reads_ok : (x : ℕ) (r : Result numbered.Call Refusal) → Reads x r → known x ≡ true → is_ok r ≡ true
 reads_ok x (Ok c) p y = refl

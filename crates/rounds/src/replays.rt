@@ -42,6 +42,7 @@ impl TryFrom<u64> for Call {
 }
 
 // What a call says: the refusal's number or 0, how many values there are, and two places for them.
+// Four words, as C reads a replay's answers, and one function for each kind of answer.
 fn of_exchange(said: Result<Option<Exchange>, Refusal>) -> [u32; 4]
     ensures { result ≡ coded (map_told exchanged (told_exchange said)) }
 {
@@ -135,12 +136,7 @@ fn run(
 fn all_known(calls: &[u64]) -> bool
     ensures { result ≡ every known calls.now }
 {
-    for code in calls {
-        if Call::try_from(*code).is_err() {
-            return false;
-        }
-    }
-    true
+    calls.iter().all(|code| Call::try_from(*code).is_ok())
 }
 
 // Opens a round, makes the calls on it, and plans: refusals 12 for a number that is no call, then open's, 4 also for too short a list

@@ -1,4 +1,5 @@
 // The round's calls by value: each takes the record, and answers what it says with the record after it.
+// The lists are lent one by one, as C lends them.
 ghost use Rattle.std.specs.Prelude.{◌≡◌, map, ◌≤◌, length};
 ghost use Rattle.lists.specs.Lists.{written};
 ghost use Rattle.answers.specs.Refusals.{told};
@@ -13,6 +14,7 @@ use choosers::node_map::ConsistentNodeMap;
 use orders::consistent_reservoir::{ConsistentReservoir, Exchange};
 
 // A round's numbers: those of its reservoir, and how many slots there are, deleted ones too.
+// Document 01 asks for a record of numbers, which C keeps in words: the reservoir's fields stand in it, and are converted.
 #[derive(Clone, Copy, Debug, PartialEq, Eq)]
 pub struct Round {
     pub master_key: u64,
@@ -60,12 +62,8 @@ fn with_reservoir(r: Round, a: ConsistentReservoir) -> Round
     ensures { result ≡ with_reservoir r a }
 {
     Round {
-        master_key: a.master_key,
-        k: a.k,
-        n: a.n,
-        j_max: a.j_max,
-        used: a.used,
         total: r.total,
+        ..begin(a)
     }
 }
 
@@ -161,6 +159,7 @@ fn terminal(key: u64, total: u32, table: &[u8], location: u32, scratch: &mut [u6
 }
 
 // The sampled locations with their slots, over the first k places of the two lists.
+// By place: of what a loop over zipped `iter_mut`s wrote a proof knows nothing (tried).
 fn deal(
     r: Round,
     list: &[u32],
@@ -173,17 +172,10 @@ fn deal(
     ensures locations_after { locations.new ≡ written (sample (reservoir_of r) list.now) locations.old }
     ensures terminals_after { terminals.new ≡ written (map (dealt_to r.master_key r.total table.now (length scratch.old)) (sample (reservoir_of r) list.now)) terminals.old }
 {
-    let n = r.n;
-    let key = r.master_key;
-    let total = r.total;
-    let mut p: usize = 0;
-    for x in &list[..r.used as usize] {
-        if n <= *x {
-            continue;
-        }
-        locations[p] = *x;
-        terminals[p] = terminal(key, total, table, *x, scratch);
-        p += 1;
+    let sampled = list[..r.used as usize].iter().filter(|x| **x < r.n);
+    for (place, x) in sampled.enumerate() {
+        locations[place] = *x;
+        terminals[place] = terminal(r.master_key, r.total, table, *x, scratch);
     }
 }
 

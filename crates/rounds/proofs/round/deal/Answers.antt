@@ -1,36 +1,57 @@
 -- `rounds::round::deal` meets its contract.
 -- Assumes nothing.
-use Rattle.std.proofs.Common.{arith}
-use Rattle.rounds.proofs.DealLaws.{slot_lent, dealt_start, dealt_done, dealt_room, dealt_yes, dealt_no}
+use Rattle.std.proofs.Common.{rules, arith, length-append, ◌∷◌, []}
+use Rattle.std.specs.List.{enumerate_from}
+use borrow.Author.Tests.{tests}
+use Rattle.std.proofs.lemmas.Iterator.{YieldsList, YieldsList-from_slice}
+use Rattle.std.proofs.lemmas.Iterator.Consumers.{YieldsList-at, YieldsList-from_filter, YieldsList-from_enumerate}
+use Rattle.lists.specs.Lists.{below}
+use Rattle.orders.specs.ReservoirCalls.{sample}
+use Rattle.rounds.specs.Rounds.{reservoir_of}
+use Rattle.rounds.proofs.DealLaws.{slot_lent, filter_is_sample, dealt_start, dealt_more, dealt_end, numbered_turn, numbered_end}
+use Rattle.rounds.proofs.round.deal.Given as given
 use Rattle.rounds.proofs.round.deal.Goals as goal
+use Rattle.rounds.proofs.round.deal.Goals.{After-into_iter-place-iterator}
 
-pub loop-x-init : goal.loop-x-init
-loop-x-init c = dealt_start _ _ _ _ _
+-- what the chain yields: the sample, each number with its place
+yields : (c : After-into_iter-place-iterator) → YieldsList given.iterator-loop-place.next_gives (λ p. (p.0, p.1.now)) c.into_iter-place-iterator.result (enumerate_from 0 (sample (reservoir_of c.args.r) c.args.list.now))
+unfolding below
+yields c =
+    let r = c.args.r in
+    rw (← filter_is_sample r c.args.list.now)
+    (YieldsList-at c.into_iter-place-iterator.ensures.into_iter_gives
+    (YieldsList-from_enumerate (YieldsList-at c.enumerate-place-items.ensures.source
+    (YieldsList-from_filter _ (below r.n) (YieldsList-at c.filter-sampled.ensures.source (YieldsList-from_slice _ c.iter.ensures.rest)) c.filter-sampled.ensures.closure (λ x b q k. search (rules, tests)))) c.enumerate-place-items.ensures.count))
 
-pub loop-x-preserved-then-n-x : goal.loop-x-preserved-then-n-x
-loop-x-preserved-then-n-x c = dealt_no _ c.args.r _ _ _ c.requires _ _ _ _ c.loop-x.invariant c.loop-x-test.true c.if-n-x.true
+pub loop-place-init : goal.loop-place-init
+loop-place-init c = dealt_start _ _ _ _
 
-pub offset_bounds-locations-p : goal.offset_bounds-locations-p
-offset_bounds-locations-p c = omega (arith, (dealt_room _ c.args.r _ _ _ c.requires _ _ _ _ c.loop-x.invariant c.loop-x-test.true c.if-n-x.false).0)
+pub bounds-locations-place : goal.bounds-locations-place
+bounds-locations-place c =
+    let l = c.loop-place in
+    let at = numbered_turn _ (yields (goal.at.bounds-locations-place c).After-into_iter-place-iterator) l.yielded _ l.yielded_by c.next.new.self c.in-Some.place c.in-Some.x c.in-Some.ensures.steps in
+    omega (arith, at.0, at.1, l.auto.locations, c.requires.1)
 
-pub bounds-locations-p : goal.bounds-locations-p
-bounds-locations-p c = omega (arith, (dealt_room _ c.args.r _ _ _ c.requires _ _ _ _ c.loop-x.invariant c.loop-x-test.true c.if-n-x.false).0, c.loop-x.auto.locations)
+pub bounds-terminals-place : goal.bounds-terminals-place
+bounds-terminals-place c =
+    let l = c.loop-place in
+    let at = numbered_turn _ (yields (goal.at.bounds-terminals-place c).After-into_iter-place-iterator) l.yielded _ l.yielded_by c.next.new.self c.in-Some.place c.in-Some.x c.in-Some.ensures.steps in
+    omega (arith, at.0, at.1, l.auto.terminals, c.requires.2)
 
-pub offset_bounds-terminals-p : goal.offset_bounds-terminals-p
-offset_bounds-terminals-p c = omega (arith, (dealt_room _ c.args.r _ _ _ c.requires _ _ _ _ c.loop-x.invariant c.loop-x-test.true c.if-n-x.false).1)
-
-pub bounds-terminals-p : goal.bounds-terminals-p
-bounds-terminals-p c = omega (arith, (dealt_room _ c.args.r _ _ _ c.requires _ _ _ _ c.loop-x.invariant c.loop-x-test.true c.if-n-x.false).1, c.loop-x.auto.terminals)
-
-pub overflow_add-p : goal.overflow_add-p
-overflow_add-p c = omega (arith, (dealt_room _ c.args.r _ _ _ c.requires _ _ _ _ c.loop-x.invariant c.loop-x-test.true c.if-n-x.false).0)
-
-pub loop-x-preserved : goal.loop-x-preserved
-loop-x-preserved c =
-    dealt_yes _ c.args.r _ _ _ c.requires _ _ _ _ c.loop-x.invariant c.loop-x-test.true c.if-n-x.false _ (slot_lent _ _ _ _ _ _ _ c.terminal.ensures c.loop-x.auto.scratch)
+pub loop-place-preserved : goal.loop-place-preserved
+loop-place-preserved c =
+    let l = c.loop-place in
+    let at = numbered_turn _ (yields (goal.at.loop-place-preserved c).After-into_iter-place-iterator) l.yielded _ l.yielded_by c.next.new.self c.in-Some.place c.in-Some.x c.in-Some.ensures.steps in
+    rw (length-append l.yielded ((c.in-Some.place, c.in-Some.x) ∷ [])) (dealt_more _ _ _ _ _ _ _ l.invariant at.0 c.requires.1 c.requires.2 _ _ _ at.1 at.2 (slot_lent _ _ _ _ _ _ _ c.terminal.ensures l.auto.scratch))
 
 pub returns-clause-locations_after : goal.returns-clause-locations_after
-returns-clause-locations_after c = (dealt_done _ c.args.r _ _ _ c.requires _ _ _ _ c.loop-x.invariant c.loop-x-test.false c.loop-x.auto.x-index-end).0
+returns-clause-locations_after c =
+    let l = c.loop-place in
+    let at = numbered_end _ (yields (goal.at.returns-clause-locations_after c).After-into_iter-place-iterator) l.yielded _ l.yielded_by c.next.new.self c.in-None.ensures.steps in
+    (dealt_end _ _ _ _ _ _ _ l.invariant at).0
 
 pub returns-clause-terminals_after : goal.returns-clause-terminals_after
-returns-clause-terminals_after c = (dealt_done _ c.args.r _ _ _ c.requires _ _ _ _ c.loop-x.invariant c.loop-x-test.false c.loop-x.auto.x-index-end).1
+returns-clause-terminals_after c =
+    let l = c.loop-place in
+    let at = numbered_end _ (yields (goal.at.returns-clause-terminals_after c).After-into_iter-place-iterator) l.yielded _ l.yielded_by c.next.new.self c.in-None.ensures.steps in
+    (dealt_end _ _ _ _ _ _ _ l.invariant at).1
