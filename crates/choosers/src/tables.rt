@@ -32,7 +32,8 @@ fn past_full(bytes: &[u8]) -> usize
     ensures within { result ≤ length bytes.now }
     ensures taken { Taken bytes.now result }
 {
-    32 * bytes.chunks_exact(32).take_while(|block| full(block)).count()
+    let blocks = bytes.chunks_exact(32).take_while(|block| full(block));
+    32 * blocks.count()
 }
 
 // The lowest place whose byte is 0.
