@@ -132,7 +132,7 @@ taken_on t x i taken more j h =
     (λ l z. more (j - x) (omega arith) (get_or-drop x t (j - x) 0 ∙ ap (λ (k : ℕ). get_or t k 0) (omega arith) ∙ z))
 
 -- a block that begins at x has no 0
-pub block_turn : (t rest block more : List ℕ) (x : ℕ) → rest ≡ drop x t → x ≤ length t → Taken t x → rest ≡ block ++ more → length block ≡ 32 → every (not_below 1) block ≡ true
+block_turn : (t rest block more : List ℕ) (x : ℕ) → rest ≡ drop x t → x ≤ length t → Taken t x → rest ≡ block ++ more → length block ≡ 32 → every (not_below 1) block ≡ true
     → (more ≡ drop (x + 32) t) × (x + 32 ≤ length t) × Taken t (x + 32)
 unfolding not_below
 block_turn t rest block more x e l taken cut long full =
@@ -193,25 +193,25 @@ lowest_none t x l taken more i h = taken_on t x (length (drop x t)) taken more i
 
 -- ---- sum: how many of the slots below i are active
 
-abbrev pub active_below : List ℕ → ℕ → ℕ → ℕ
+abbrev active_below : List ℕ → ℕ → ℕ → ℕ
 active_below t c i = length (keep (active t c) (zero_to i))
 
-pub active_all : (t : List ℕ) (c : ℕ) → active_below t c c ≡ length (actives t c)
+active_all : (t : List ℕ) (c : ℕ) → active_below t c c ≡ length (actives t c)
 unfolding actives
 active_all t c = refl
 
 -- slot i counts as its byte, which is 0 or 1
-pub more_yes : (t : List ℕ) (c i : ℕ) → i < c → get_or t i 0 ≡ 1 → active_below t c (i + 1) ≡ suc (active_below t c i)
+more_yes : (t : List ℕ) (c i : ℕ) → i < c → get_or t i 0 ≡ 1 → active_below t c (i + 1) ≡ suc (active_below t c i)
 more_yes t c i h e = ap (λ (r : List ℕ). length (keep (active t c) r)) (zero_to_snoc i) ∙ keep_snoc_yes (active t c) (zero_to i) i (active_yes t c i h e)
 
-pub more_no : (t : List ℕ) (c i : ℕ) → get_or t i 0 ≢ 1 → active_below t c (i + 1) ≡ active_below t c i
+more_no : (t : List ℕ) (c i : ℕ) → get_or t i 0 ≢ 1 → active_below t c (i + 1) ≡ active_below t c i
 more_no t c i d = ap (λ (r : List ℕ). length (keep (active t c) r)) (zero_to_snoc i) ∙ keep_snoc_no (active t c) (zero_to i) i (active_no t c i d)
 
-pub byte_small : (t : List ℕ) (i : ℕ) → every at_most_one t ≡ true → i < length t → get_or t i 0 ≤ 1
+byte_small : (t : List ℕ) (i : ℕ) → every at_most_one t ≡ true → i < length t → get_or t i 0 ≤ 1
 byte_small t i e h =
     leb-true (get_or t i 0) 1 (every_place at_most_one t (length t) i (rw (take_all (length t) t (omega arith)) e) h (omega arith))
 
-pub sum_to : (t : List ℕ) → every at_most_one t ≡ true → (i : ℕ) → i ≤ length t → sum_by (λ b. b) (take i t) ≡ active_below t (length t) i
+sum_to : (t : List ℕ) → every at_most_one t ≡ true → (i : ℕ) → i ≤ length t → sum_by (λ b. b) (take i t) ≡ active_below t (length t) i
 sum_to t small zero h = refl
 sum_to t small (suc i) h =
     let ih = sum_to t small i (omega arith) in
