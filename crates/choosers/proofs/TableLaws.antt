@@ -1,6 +1,6 @@
 -- Passes over the bytes of a slot map's table, a turn of each loop as a law.
 -- Assumes nothing.
-use mathlib.Core.Path.{◌≡◌, refl, sym, ap, ◌∙◌}
+use mathlib.Core.Path.{◌≡◌, refl, sym, ap, subst, ◌∙◌}
 use mathlib.Core.Logic.{◌≢◌}
 use mathlib.Core.Bool.{Bool, true, false, not, true≢false, ◌&&◌}
 use mathlib.Core.List.{List, [], ◌∷◌, ◌++◌}
@@ -8,9 +8,20 @@ use Rattle.std.specs.Prelude.{◌↔◌, Contains}
 use Rattle.std.proofs.lemmas.Grind.{get_or_default_zero}
 use Rattle.std.specs.Prelude.{Option, Some, None, unwrap_or, option_map}
 use Rattle.std.specs.Option.{option_eq}
+use Rattle.std.specs.Bool.{MatchBool}
+use Rattle.std.specs.Option.{MatchOption, is_some}
+use Rattle.std.specs.Fn.{CalledAt}
+use Rattle.std.specs.List.{sum_by}
+use Rattle.std.specs.Iterator.{Yields}
+use Rattle.std.specs.Iterator.Adapters.{take_while_source, take_while_done, take_while_callee, take_while_steps}
+use Rattle.std.specs.Slice.Iter.{chunks_exact_rest, chunks_exact_size, chunks_exact_steps}
+use Rattle.std.proofs.lemmas.List.Sums.{sum_by_more}
+use Rattle.std.specs.declared.iter.TakeWhile.{TakeWhile}
+use Rattle.std.specs.declared.slice.ChunksExact.{ChunksExact}
 use denote.Ref.{Bor}
+use denote.Param.Members.{Mut}
 use mathlib.Core.Option as maybe
-use Prim.Native.Nat.{ℕ, suc, ◌+◌, ◌-◌, ◌≤◌, ◌<◌, max, min}
+use Prim.Native.Nat.{ℕ, zero, suc, ◌+◌, ◌-◌, ◌*◌, ◌≤◌, ◌<◌, max, min}
 use native.Mathlib.Numerals.{add-one}
 use native.Mathlib.Omega.{arith}
 use borrow.Author.Tests.{lt-ltb, le-ltb, le-leb, lt-leb, eq-eqb, ne_eqb, ltb-true, eqb-true, leb-true}
@@ -121,7 +132,7 @@ taken_on t x i taken more j h =
     (λ l z. more (j - x) (omega arith) (get_or-drop x t (j - x) 0 ∙ ap (λ (k : ℕ). get_or t k 0) (omega arith) ∙ z))
 
 -- a block that begins at x has no 0
-pub block_turn : (t rest block more : List ℕ) (x : ℕ) → rest ≡ drop x t → x ≤ length t → Taken t x → rest ≡ block ++ more → length block ≡ 32 → every (not_below 1) block ≡ true
+block_turn : (t rest block more : List ℕ) (x : ℕ) → rest ≡ drop x t → x ≤ length t → Taken t x → rest ≡ block ++ more → length block ≡ 32 → every (not_below 1) block ≡ true
     → (more ≡ drop (x + 32) t) × (x + 32 ≤ length t) × Taken t (x + 32)
 unfolding not_below
 block_turn t rest block more x e l taken cut long full =
@@ -134,6 +145,44 @@ block_turn t rest block more x e l taken cut long full =
           omega (arith, b, ap (λ (u : List ℕ). get_or u i 0) is, get_or-append block more 0 i (omega arith), z)),
     )
 
+-- a block that the pass takes comes next, and has no 0; over all that it takes
+module _ {F : Type 0} (g : Mut F (Bor (Bor (List ℕ)) × Unit {0}) Bool) (f : F)
+    (tests : (x : Bor (List ℕ)) (b : Bool) (q : F) → CalledAt g f x b q → (q ≡ f) × (b ≡ every (not_below 1) x.now)) (t : List ℕ) where
+  abbrev Pass : Type 0
+  Pass = TakeWhile (ChunksExact ℕ) F
+
+  abbrev Comes : Pass → Pass → Bor (List ℕ) → Type 0
+  Comes s w x = chunks_exact_steps {A = ℕ} (take_while_source s) (Some x) (take_while_source w) × (every (not_below 1) x.now ≡ true) × (take_while_callee w ≡ f)
+
+  abbrev Turn : Pass → Pass → Bor (List ℕ) → Option (Bor (List ℕ)) → Type 0
+  Turn s w x o = MatchOption o ((Some x ≡ None) × (take_while_done w ≡ false))
+      (λ y. (b : Bool) × CalledAt g (take_while_callee s) y b (take_while_callee w) × MatchBool b ((Some x ≡ Some y) × (take_while_done w ≡ false)) ((Some x ≡ None) × (take_while_done w ≡ true)))
+
+  turn : (s w : Pass) (x : Bor (List ℕ)) (o : Option (Bor (List ℕ))) → take_while_callee s ≡ f → chunks_exact_steps {A = ℕ} (take_while_source s) o (take_while_source w) → Turn s w x o → Comes s w x
+  turn s w x None c a p = absurd (true≢false (ap is_some p.0))
+  turn s w x (Some y) c a (false, l, p) = absurd (true≢false (ap is_some p.0))
+  turn s w x (Some y) c a (true, l, p) =
+      let e : y ≡ x = ap (unwrap_or_else y) (sym p.0) in
+      let q = tests y true (take_while_callee w) (subst (λ z. CalledAt g z y true (take_while_callee w)) c l) in
+      (subst (λ z. chunks_exact_steps {A = ℕ} (take_while_source s) (Some z) (take_while_source w)) e a, subst (λ z. every (not_below 1) z.now ≡ true) e (sym q.1), q.0)
+    where
+      unwrap_or_else : Bor (List ℕ) → Option (Bor (List ℕ)) → Bor (List ℕ)
+      unwrap_or_else z None = z
+      unwrap_or_else z (Some v) = v
+
+  comes : (s w : Pass) (x : Bor (List ℕ)) (d : Bool) → take_while_callee s ≡ f
+      → MatchBool d ((Some x ≡ None) × (w ≡ s)) ((o : Option (Bor (List ℕ))) × chunks_exact_steps {A = ℕ} (take_while_source s) o (take_while_source w) × Turn s w x o) → Comes s w x
+  comes s w x true c p = absurd (true≢false (ap is_some p.0))
+  comes s w x false c (o, a, p) = turn s w x o c a p
+
+  pub blocks_taken : (xs : List (Bor (List ℕ))) (s w : Pass) (x : ℕ) → take_while_callee s ≡ f → chunks_exact_size (take_while_source s) ≡ 32 → chunks_exact_rest (take_while_source s) ≡ drop x t
+      → x ≤ length t → Taken t x → Yields (take_while_steps (chunks_exact_steps {A = ℕ}) g) s xs w → Taken t (x + 32 * length xs)
+  blocks_taken [] s w x c size rest l taken p = subst (Taken t) (omega arith) taken
+  blocks_taken (y ∷ ys) s w x c size rest l taken (j, p, q) =
+      let m = comes s j y (take_while_done s) c p in
+      let b = block_turn t _ y.now _ x rest l taken m.0.1.0 (m.0.1.1 ∙ size) m.1 in
+      subst (Taken t) (omega arith) (blocks_taken ys j w (x + 32) m.2 (m.0.0 ∙ size) b.0 b.1 b.2 q)
+
 -- the lowest 0 of those from x on
 pub lowest_some : (t : List ℕ) (x i : ℕ) → x ≤ length t → Taken t x → i < length (drop x t) → get_or (drop x t) i 0 ≡ 0 → Taken (drop x t) i
     → (x + i < length t) × (get_or t (x + i) 0 ≡ 0) × Taken t (x + i)
@@ -144,29 +193,39 @@ lowest_none t x l taken more i h = taken_on t x (length (drop x t)) taken more i
 
 -- ---- sum: how many of the slots below i are active
 
-abbrev pub active_below : List ℕ → ℕ → ℕ → ℕ
+abbrev active_below : List ℕ → ℕ → ℕ → ℕ
 active_below t c i = length (keep (active t c) (zero_to i))
 
-pub active_all : (t : List ℕ) (c : ℕ) → active_below t c c ≡ length (actives t c)
+active_all : (t : List ℕ) (c : ℕ) → active_below t c c ≡ length (actives t c)
 unfolding actives
 active_all t c = refl
 
 -- slot i counts as its byte, which is 0 or 1
-pub more_yes : (t : List ℕ) (c i : ℕ) → i < c → get_or t i 0 ≡ 1 → active_below t c (i + 1) ≡ suc (active_below t c i)
+more_yes : (t : List ℕ) (c i : ℕ) → i < c → get_or t i 0 ≡ 1 → active_below t c (i + 1) ≡ suc (active_below t c i)
 more_yes t c i h e = ap (λ (r : List ℕ). length (keep (active t c) r)) (zero_to_snoc i) ∙ keep_snoc_yes (active t c) (zero_to i) i (active_yes t c i h e)
 
-pub more_no : (t : List ℕ) (c i : ℕ) → get_or t i 0 ≢ 1 → active_below t c (i + 1) ≡ active_below t c i
+more_no : (t : List ℕ) (c i : ℕ) → get_or t i 0 ≢ 1 → active_below t c (i + 1) ≡ active_below t c i
 more_no t c i d = ap (λ (r : List ℕ). length (keep (active t c) r)) (zero_to_snoc i) ∙ keep_snoc_no (active t c) (zero_to i) i (active_no t c i d)
 
-pub byte_small : (t : List ℕ) (i : ℕ) → every at_most_one t ≡ true → i < length t → get_or t i 0 ≤ 1
+byte_small : (t : List ℕ) (i : ℕ) → every at_most_one t ≡ true → i < length t → get_or t i 0 ≤ 1
 byte_small t i e h =
     leb-true (get_or t i 0) 1 (every_place at_most_one t (length t) i (rw (take_all (length t) t (omega arith)) e) h (omega arith))
 
-pub sum_turn : (t : List ℕ) (c i : ℕ) → i < c → get_or t i 0 ≤ 1 → active_below t c (i + 1) ≡ active_below t c i + get_or t i 0
-sum_turn t c i h b =
+sum_to : (t : List ℕ) → every at_most_one t ≡ true → (i : ℕ) → i ≤ length t → sum_by (λ b. b) (take i t) ≡ active_below t (length t) i
+sum_to t small zero h = refl
+sum_to t small (suc i) h =
+    let ih = sum_to t small i (omega arith) in
+    let step : sum_by (λ b. b) (take (suc i) t) ≡ sum_by (λ b. b) (take i t) + get_or t i 0
+    = ap (λ (k : ℕ). sum_by (λ b. b) (take k t)) (sym (add-one i)) ∙ sum_by_more (λ b. b) t i 0 h in
+    let on : active_below t (length t) (suc i) ≡ active_below t (length t) (i + 1) = ap (active_below t (length t)) (sym (add-one i)) in
     by_same (get_or t i 0) 1
-    (λ e. omega (arith, more_yes t c i h e))
-    (λ d. omega (arith, more_no t c i d))
+    (λ e. omega (arith, more_yes t (length t) i h e))
+    (λ d. omega (arith, more_no t (length t) i d, byte_small t i small h))
+
+-- the sum of all bytes
+pub sum_all : (t : List ℕ) → every at_most_one t ≡ true → sum_by (λ b. b) t ≡ length (actives t (length t))
+sum_all t small =
+    ap (sum_by (λ b. b)) (sym (take_all (length t) t (omega arith))) ∙ sum_to t small (length t) (omega arith) ∙ active_all t (length t)
 
 not_empty : (x : ℕ) (xs : List ℕ) → 0 < occurrences x xs → true ≡ not (eqb (length xs) 0)
 not_empty x [] h = absurd (omega arith)

@@ -32,14 +32,8 @@ fn past_full(bytes: &[u8]) -> usize
     ensures within { result ≤ length bytes.now }
     ensures taken { Taken bytes.now result }
 {
-    let mut x = 0;
-    for block in bytes.chunks_exact(32) {
-        if !full(block) {
-            return x;
-        }
-        x += 32;
-    }
-    x
+    let blocks = bytes.chunks_exact(32).take_while(|block| full(block));
+    32 * blocks.count()
 }
 
 // The lowest place whose byte is 0.
@@ -65,9 +59,5 @@ pub(crate) fn sum(bytes: &[u8]) -> u32
     requires few { length bytes.now ≤ slot_limit }
     ensures { result ≡ length (actives bytes.now (length bytes.now)) }
 {
-    let mut n = 0;
-    for &byte in bytes {
-        n += byte as u32;
-    }
-    n
+    bytes.iter().map(|&byte| u32::from(byte)).sum()
 }

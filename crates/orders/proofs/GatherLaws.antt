@@ -1,64 +1,49 @@
 -- The sample written to another list, from the front.
 -- Assumes nothing.
-use mathlib.Core.Path.{◌≡◌, ap, sym, ◌∙◌}
-use mathlib.Core.List.{List, [], ◌∷◌, ◌++◌, append-nil}
-use Prim.Native.Nat.{ℕ, suc, ◌+◌, ◌<◌, ◌≤◌}
-use native.Mathlib.Numerals.{add-one}
+use mathlib.Core.Path.{◌≡◌, refl, ap, sym, ◌∙◌}
+use mathlib.Core.Bool.{Bool}
+use mathlib.Core.List.{List, [], ◌∷◌, ◌++◌, map}
+use Prim.Native.Nat.{ℕ, ◌<◌}
 use native.Mathlib.Omega.{arith}
-use lib.ListN.{length, take, drop, get_or, set, length-append, length-drop}
-use lib.Seq.{take-suc, take-length, drop-cons, set_at, append_snoc}
-use Rattle.lists.specs.Lists.{keep, below, count_below, written}
-use Rattle.lists.proofs.Tests.{below_yes, below_no}
-use Rattle.lists.proofs.Members.{keep_append}
-use Rattle.lists.proofs.Prefixes.{keep_take_le}
+use lib.ListN.{length, set}
+use Rattle.std.proofs.lemmas.List.{length-map, map-append}
+use Rattle.std.specs.Prelude.{Option}
+use Rattle.std.specs.List.{filter}
+use Rattle.std.specs.Iterator.{AlwaysYields}
+use Rattle.std.specs.Iterator.Adapters.{enumerate_source, enumerate_steps}
+use Rattle.std.specs.declared.iter.Enumerate.{Enumerate}
+use Rattle.std.proofs.lemmas.Iterator.{YieldsList}
+use denote.Ref.{Bor}
+use Rattle.lists.specs.Lists.{keep, written}
+use Rattle.lists.proofs.Tests.{by_test}
+use Rattle.lists.proofs.Writing.{written_more, length_written}
 
--- the numbers below n of the first i, then the old list
-abbrev pub gathered : ℕ → List ℕ → List ℕ → ℕ → ℕ → List ℕ
-gathered n list old i t = keep (below n) (take i list) ++ drop t old
+pub filter_is_keep : (p : ℕ → Bool) (xs : List ℕ) → filter p xs ≡ keep p xs
+filter_is_keep p [] = refl
+filter_is_keep p (x ∷ xs) = by_test (p x) (λ t. rw t (ap (λ (r : List ℕ). x ∷ r) (filter_is_keep p xs))) (λ f. rw f (filter_is_keep p xs))
 
-module _ (n : ℕ) (list old : List ℕ) (room : count_below n list ≤ length old) (i t : ℕ) (out : List ℕ) (lt : i < length list) (is : t ≡ count_below n (take i list)) (same : out ≡ gathered n list old i t) where
-  more : take (i + 1) list ≡ take i list ++ (get_or list i 0 ∷ [])
-  more = rw (add-one i) (take-suc list i 0 (omega arith))
+-- numbered items come as the items themselves
+module _ {S A B : Type 0} (steps : S → Option A → S → Type 0) (v : A → B) where
+  values : (ys : List B) (s : Enumerate S) → AlwaysYields steps v (enumerate_source s) ys → AlwaysYields (enumerate_steps steps) (λ p. v p.1) s ys
+  values [] s e = λ p j h. e p.1 (enumerate_source j) h.0
+  values (y ∷ ys) s e = (λ j h. e.0 (enumerate_source j) h.0, λ p j h. let m = e.1 p.1 (enumerate_source j) h.0 in (m.0, values ys j m.1))
 
-  kept_yes : get_or list i 0 < n → keep (below n) (take (i + 1) list) ≡ keep (below n) (take i list) ++ (get_or list i 0 ∷ [])
-  kept_yes y = ap (keep (below n)) more ∙ keep_append (below n) (take i list) (get_or list i 0 ∷ []) ∙ rw (below_yes (get_or list i 0) n y)
+  pub values_yielded : (ys : List B) (s : Enumerate S) → YieldsList steps v (enumerate_source s) ys → YieldsList (enumerate_steps steps) (λ p. v p.1) s ys
+  values_yielded ys s e = record { runs = values ys s e.runs }
 
-  kept_no : n ≤ get_or list i 0 → keep (below n) (take (i + 1) list) ≡ keep (below n) (take i list)
-  kept_no y = ap (keep (below n)) more ∙ keep_append (below n) (take i list) (get_or list i 0 ∷ []) ∙ rw (below_no (get_or list i 0) n y, append-nil)
+-- the numbers that came: none is written at first, and each at its place
+abbrev pub came : List (ℕ × Bor ℕ) → List ℕ
+came ps = map (λ p. p.1.now) ps
 
-  pub yes_count : get_or list i 0 < n → t + 1 ≡ count_below n (take (i + 1) list)
-  yes_count y = rw (kept_yes y) (omega (arith, length-append (keep (below n) (take i list)) (get_or list i 0 ∷ [])))
-
-  pub no_count : n ≤ get_or list i 0 → t ≡ count_below n (take (i + 1) list)
-  no_count y = is ∙ ap length (sym (kept_no y))
-
-  pub yes_room : get_or list i 0 < n → t < length old
-  yes_room y =
-      let d : count_below n (take (i + 1) list) ≤ count_below n list = keep_take_le (below n) (i + 1) list in
-      omega (arith, yes_count y)
-
-  pub yes_list : get_or list i 0 < n → set out t (get_or list i 0) ≡ gathered n list old (i + 1) (t + 1)
-  yes_list y =
-      rw (
-        same,
-        drop-cons old t 0 (yes_room y),
-        kept_yes y,
-        add-one t,
-        set_at (keep (below n) (take i list)) (get_or old t 0) (drop (suc t) old) (get_or list i 0) t (sym is),
-        append_snoc (keep (below n) (take i list)) (get_or list i 0) (drop (suc t) old),
-      )
-
-  pub no_list : n ≤ get_or list i 0 → out ≡ gathered n list old (i + 1) t
-  no_list y = same ∙ ap (λ (z : List ℕ). z ++ drop t old) (sym (kept_no y))
-
-pub gathered_length : (n : ℕ) (list old : List ℕ) (i t : ℕ) → t ≡ count_below n (take i list) → t ≤ length old → length (gathered n list old i t) ≡ length old
-gathered_length n list old i t e h = simp (length-append, length-drop) (omega arith)
-
-pub count_fits : (n : ℕ) (list old : List ℕ) (i t : ℕ) → count_below n list ≤ length old → t ≡ count_below n (take i list) → t ≤ length old
-count_fits n list old i t room e =
-    let d : count_below n (take i list) ≤ count_below n list = keep_take_le (below n) i list in
-    omega arith
-
-pub gathered_done : (n : ℕ) (list old : List ℕ) (i t : ℕ) → i ≡ length list → t ≡ count_below n (take i list) → gathered n list old i t ≡ written (keep (below n) list) old
+pub came_none : (old : List ℕ) → old ≡ written (came []) old
 unfolding written
-gathered_done n list old i t d e = rw (e, d, take-length list)
+came_none old = refl
+
+module _ (ps : List (ℕ × Bor ℕ)) (old : List ℕ) (room : length ps < length old) where
+  pub came_length : length (written (came ps) old) ≡ length old
+  came_length = length_written (came ps) old (omega (arith, length-map ps (λ (p : ℕ × Bor ℕ). p.1.now)))
+
+  pub came_more : (t : ℕ) (x : Bor ℕ) → t ≡ length ps → set (written (came ps) old) t x.now ≡ written (came (ps ++ ((t, x) ∷ []))) old
+  came_more t x e =
+      written_more (came ps) old t x.now (omega (arith, length-map ps (λ (p : ℕ × Bor ℕ). p.1.now))) (omega arith)
+      ∙ ap (λ (r : List ℕ). written r old) (sym (map-append (λ (p : ℕ × Bor ℕ). p.1.now) ps ((t, x) ∷ [])))

@@ -6,7 +6,7 @@ use crate::consistent_reservoir::ConsistentReservoir;
 use crate::layer::Layer;
 
 // What one pass over the listed numbers finds: how many are below n, the smallest not below n, the or of all. The smallest is at
-// most 2^30: there the minimum starts, since an Option would be a branch in each turn.
+// most 2^30: there the minimum starts, since an Option would be no plainer, and a branch in each turn.
 #[derive(Clone, Copy)]
 pub(crate) struct Survey {
     pub(crate) count: u32,

@@ -1,5 +1,5 @@
 // The fifteen counters of an order: read, raised, and walked by. Each is read and written by an index that is a constant, since
-// a computed one would keep the array in memory.
+// a computed index keeps the array in memory (measured: decision 38 of docs/DECISIONS.md).
 ghost use Rattle.std.specs.Prelude.{◌≡◌, ℕ, ◌-◌, ◌<◌, ◌≤◌, get_or, set};
 ghost use Rattle.layers.specs.Layer.{size};
 ghost use Rattle.orders.specs.Orders.{counter};

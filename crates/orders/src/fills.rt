@@ -50,11 +50,7 @@ pub(crate) fn gather(list: &[u32], n: u32, out: &mut [u32])
     requires { count_below n list.now ≤ length out.old }
     ensures { out.new ≡ written (keep (below n) list.now) out.old }
 {
-    let mut t = 0;
-    for x in list {
-        if *x < n {
-            out[t] = *x;
-            t += 1;
-        }
+    for (t, x) in list.iter().filter(|x| **x < n).enumerate() {
+        out[t] = *x;
     }
 }

@@ -10,7 +10,7 @@ use crate::layer::Layer;
 use crate::outputs::Outputs;
 
 // The inputs of a layer up to and with its k-th output below a bound, and the smallest output not below it, at most 2^30: there
-// the minimum starts, since an Option would be a branch in each turn.
+// the minimum starts, since an Option would be no plainer, and a branch in each turn.
 #[derive(Clone, Copy)]
 pub(crate) struct Scan {
     pub(crate) inputs: u32,

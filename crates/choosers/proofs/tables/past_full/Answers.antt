@@ -1,12 +1,20 @@
 -- `choosers::tables::past_full` meets its contract.
 -- Assumes nothing.
-use mathlib.Core.Path.{sym, ◌∙◌}
-use Rattle.choosers.proofs.TableLaws.{block_turn}
+use Rattle.std.proofs.Common.{rules, tests, ◌≡◌, ◌+◌, ◌*◌, length}
+use mathlib.Core.Path.{subst, ap, ◌∙◌}
+use native.Mathlib.Omega.{arith}
+use Rattle.std.specs.Iterator.Adapters.{take_while_source}
+use Rattle.std.specs.Slice.Iter.{chunks_exact_size, chunks_exact_rest}
+use Rattle.choosers.specs.InnerSlots.{Taken}
+use Rattle.choosers.proofs.TableLaws.{blocks_taken}
 use Rattle.choosers.proofs.tables.past_full.Goals as goal
 
-pub loop-block-preserved : goal.loop-block-preserved
-loop-block-preserved c =
-    let v = c.loop-block.invariant in
-    let h = c.in-Some.ensures.steps in
-    let b = block_turn _ _ _ _ _ v.1 v.2 v.3 h.1.0 (h.1.1 ∙ v.0) (sym c.full.ensures ∙ c.if-not-full.false) in
-    (h.0 ∙ v.0, b.0, b.1, b.2)
+pub returns-clause-taken : goal.returns-clause-taken
+returns-clause-taken c =
+    let t = c.args.bytes.now in
+    let r = c.count.ensures.ran in
+    let size : chunks_exact_size (take_while_source c.take_while-blocks.result) ≡ 32 = ap chunks_exact_size c.take_while-blocks.ensures.source ∙ c.chunks_exact.ensures.size in
+    let rest : chunks_exact_rest (take_while_source c.take_while-blocks.result) ≡ t = ap chunks_exact_rest c.take_while-blocks.ensures.source ∙ c.chunks_exact.ensures.rest in
+    let all : Taken t (0 + 32 * length r.0)
+    = blocks_taken _ _ (λ x b q k. search (rules, tests)) t r.0 c.take_while-blocks.result _ 0 c.take_while-blocks.ensures.closure size rest (omega arith) (λ i h. absurd (omega arith)) r.1.1.1 in
+    subst (Taken t) (omega (arith, r.2)) all

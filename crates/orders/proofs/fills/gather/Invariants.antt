@@ -1,10 +1,11 @@
 -- `orders::fills::gather` meets its contract.
 -- Assumes nothing.
 use mathlib.Core.Path.{◌≡◌}
-use lib.ListN.{take}
-use Rattle.lists.specs.Lists.{count_below}
-use Rattle.orders.proofs.GatherLaws.{gathered}
+use lib.ListN.{length}
+use Rattle.std.specs.Iterator.Adapters.{enumerate_count}
+use Rattle.lists.specs.Lists.{written}
+use Rattle.orders.proofs.GatherLaws.{came}
 use Rattle.orders.proofs.fills.gather.Given as goal
 
-abbrev pub invariant-loop-x : goal.invariant-loop-x
-invariant-loop-x l = (l.t ≡ count_below l.n (take l.x-index l.list)) × (l.out ≡ gathered l.n l.list l.initial.out l.x-index l.t)
+abbrev pub invariant-loop-t : goal.invariant-loop-t
+invariant-loop-t l = (enumerate_count l.t-iterator ≡ length l.yielded) × (l.out ≡ written (came l.yielded) l.initial.out)
