@@ -17,10 +17,10 @@ use Rattle.std.proofs.lemmas.Iterator.Consumers.{YieldsList-turn, YieldsList-end
 use Rattle.std.specs.List.{filter, enumerate_from}
 use Rattle.std.proofs.lemmas.List.FromFn.{length-enumerate_from, get_or-enumerate_from}
 use Rattle.std.proofs.Math.Seq.{take-length}
-use mathlib.Core.Bool.{Bool, true, false, cond}
-use Rattle.lists.specs.Lists.{put, keep, below, written}
+use Rattle.lists.specs.Lists.{below, written}
 use Rattle.answers.specs.Refusals.{optional}
 use Rattle.lists.proofs.Writing.{written_more}
+use Rattle.orders.proofs.GatherLaws.{filter_is_keep}
 use Rattle.orders.specs.ReservoirCalls.{sample}
 use Rattle.choosers.specs.Slots.{state_of}
 use Rattle.choosers.specs.SlotCalls.{look_up}
@@ -44,14 +44,6 @@ pub slot_lent : (key total : ℕ) (t : List ℕ) (x s places lent : ℕ) → s �
 slot_lent key total t x s places lent e h = e ∙ ap (λ (q : ℕ). dealt_to key total t q x) h
 
 -- ---- the sample as the loop filters it
-
-filter_is_keep : (p : ℕ → Bool) (xs : List ℕ) → filter p xs ≡ keep p xs
-filter_is_keep p [] = refl
-filter_is_keep p (x ∷ xs) = by_test (p x) (filter_is_keep p xs)
-  where
-    by_test : (b : Bool) {l m : List ℕ} → l ≡ m → cond b (x ∷ l) l ≡ put b x m
-    by_test true e = ap (λ (l : List ℕ). x ∷ l) e
-    by_test false e = e
 
 pub filter_is_sample : (r : Round) (list : List ℕ) → filter (below r.n) (take r.used list) ≡ sample (reservoir_of r) list
 unfolding sample
