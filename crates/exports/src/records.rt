@@ -8,7 +8,7 @@ use crate::parts;
 use answers::Refusal;
 
 // A record that stands in words of 32 bits or of 64. C lends words of any length, so that there are enough is tested once in each
-// call, and asked for by those that read and write them.
+// call, by the number that its promise has, and asked for by those that read and write them.
 pub(crate) trait Record: Copy {
     type Word;
 

@@ -14,7 +14,8 @@ use crate::{checks, fills, scans};
 use answers::Refusal;
 
 // A reservoir's numbers: the key, k, n, the layer and how many places of the list are in use. The list is lent, since there is
-// no heap, and C keeps these numbers in words; so the layer is any number here, and a call tests it.
+// no heap, and C keeps these numbers in words; so the layer is any number here, and that record and list fit each other is tested
+// by each call, and asked for by the functions that it uses.
 #[derive(Clone, Copy, Debug, PartialEq, Eq)]
 pub struct ConsistentReservoir {
     pub master_key: u64,

@@ -17,7 +17,7 @@ pub(crate) struct Scan {
     pub(crate) low: u32,
 }
 
-// The layer that a growth goes to, and what a scan by top bits 00 finds in it.
+// The layer that a growth goes to, as the record will have it, and what a scan by top bits 00 finds in it.
 #[derive(Clone, Copy)]
 pub(crate) struct Wide {
     pub(crate) layer: u32,
