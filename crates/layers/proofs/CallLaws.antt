@@ -12,12 +12,6 @@ pub apply_in : (j key x : ℕ) → j ≤ 14 → x < size j → layer_apply j key
 unfolding layer_apply
 apply_in j key x h p = rw (le-leb j 14 h, lt-ltb x (size j) p)
 
-pub apply_out : (j key x : ℕ) → (14 < j) ⊎ (size j ≤ x) → layer_apply j key x ≡ refusal 12
-unfolding layer_apply
-apply_out j key x (inl h) = rw (lt-leb j 14 h)
-apply_out j key x (inr p) =
-    by_below 14 j (λ h. rw (lt-leb j 14 h)) (λ h. rw (le-leb j 14 h, le-ltb x (size j) p))
-
 pub keyed_in : (j key : ℕ) → j ≤ 14 → keyed j key ≡ says (keyed_layer j key)
 unfolding keyed
 keyed_in j key h = rw (le-leb j 14 h)

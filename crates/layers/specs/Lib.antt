@@ -1,5 +1,6 @@
 pub mod Layer
 pub mod Calls
 pub mod KeyedLayers
+pub mod Permutations
 pub mod InnerRows
 pub mod InnerRounds
