@@ -1,7 +1,7 @@
 -- Document 01, "A plan call, followed downwards", **Reservoir**, sentence by sentence: what a reservoir lists, and how that
 -- changes. The calls stand in ReservoirCalls.antt.
 -- Assumes nothing.
-use Rattle.std.specs.Prelude.{Bool, List, map, ℕ, suc, ◌-◌, ◌^◌, ltb, length, take, get_or}
+use Rattle.std.specs.Prelude.{Bool, List, map, ℕ, suc, ◌+◌, ◌-◌, ◌^◌, ltb, length, take, get_or}
 use Rattle.std.proofs.Math.Option
 use Rattle.std.proofs.Math.Option.{Option}
 use Rattle.lists.specs.Lists.{keep, below, not_below, has, zero_to, smallest, up_to, replace, first_from}
@@ -46,9 +46,13 @@ wider key k j = first_from (λ i. ltb k (L key i k)) (suc j) (14 - j)
 unfoldable pub held : ℕ → ℕ → ℕ → ℕ → List ℕ
 held key j k n = up_to (counts n) k (whole key j)
 
+-- v "is among the first k of P(v+1)"
+abbrev pub among : ℕ → ℕ → ℕ → Bool
+among key k v = has v (take k (P key (v + 1)))
+
 -- "the smallest v from n up that is among the first k of P(v+1)", below 2^30
 unfoldable pub due : ℕ → ℕ → ℕ → Option ℕ
-due key k n = first_from (λ v. has v (take k (P key (suc v)))) n (2 ^ 30 - n)
+due key k n = first_from (among key k) n (2 ^ 30 - n)
 
 -- "the k-th of P(n)"
 unfoldable pub kth : ℕ → ℕ → ℕ → ℕ

@@ -16,8 +16,8 @@ use Rattle.orders.specs.ReservoirCalls.{told_exchange}
 use Rattle.rounds.specs.declared.round.Round.{Round}
 use Rattle.rounds.specs.Rounds.{State, state, After, after, admit_call, join_call, withdraw_call}
 use Rattle.rounds.specs.Plans.{plan_call, shown_plan}
-use Rattle.rounds.specs.Ledgers.{Call, first_ledger, ledger_plan, fed_all}
-use Rattle.rounds.specs.Histories.{exchanged, slot_said, nothing_said, valued, call, after_all, all_said, Opens}
+use Rattle.rounds.specs.Ledgers.{Call, exchanged, first_ledger, ledger_plan, fed_all}
+use Rattle.rounds.specs.Histories.{slot_said, nothing_said, valued, call, after_all, all_said, Opens}
 use Rattle.rounds.specs.Demand3.{Agree, Follows, Reached}
 use Rattle.rounds.specs.CallsMade.{Made, admit_returned, join_returned, withdraw_returned, admit_left, join_left, withdraw_left, AllMade, made_none, made_next, MadeFollows}
 use Rattle.rounds.proofs.Demand3Laws.{demand_3}

@@ -7,6 +7,7 @@ use mathlib.Core.List.{List, []}
 use Prim.Native.Nat.{ℕ}
 use Rattle.lists.specs.Told.{says, map_told}
 use Rattle.orders.specs.declared.consistent_reservoir.ConsistentReservoir.{ConsistentReservoir}
+use Rattle.orders.specs.Admissions as Admissions
 use Rattle.orders.proofs.ReservoirLaws as List
 use Rattle.choosers.specs.Slots.{actives}
 use Rattle.choosers.specs.SlotCalls as Slots
@@ -19,7 +20,7 @@ use Rattle.lists.proofs.Sets.{Same}
 
 -- the record against its memory
 pub record Kept (s : State) : Type 0 where
-  pub list : List.Kept (reservoir_of s.round) s.list
+  pub list : Admissions.Kept (reservoir_of s.round) s.list
   pub table : Slots.fitting (map_of s.round) s.table ≡ true
 
 -- the active slots, as the record and the table have them

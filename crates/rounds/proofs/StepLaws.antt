@@ -7,7 +7,6 @@ use mathlib.Core.Logic.{◌⊎◌, inl, inr, ⊎_elim}
 use mathlib.Core.List.{List, [], ◌∷◌}
 use mathlib.Core.Option.{Option, none, some, get_or}
 use Prim.Native.Nat.{ℕ, ◌+◌, ◌-◌, ◌≤◌, ◌<◌, min, max}
-use native.Mathlib.Numerals.{add-one}
 use native.Mathlib.Omega.{arith}
 use borrow.Author.Tests.{eq-eqb, ne_eqb}
 use lib.Dec.{eqb}
@@ -18,7 +17,8 @@ use Rattle.lists.proofs.Tests.{by_test, by_below, by_same, by_cond}
 use Rattle.lists.proofs.Searching.{first_same}
 use Rattle.orders.specs.ReservoirCalls as Reservoir
 use Rattle.orders.proofs.MemoryLaws.{admit_length}
-use Rattle.orders.proofs.AdmissionLaws.{in_out, reached_by, Short, Admits, admit_kept}
+use Rattle.orders.specs.Admissions.{Short, Admits}
+use Rattle.orders.proofs.AdmissionLaws.{admit_kept}
 use Rattle.choosers.specs.declared.node_map.ConsistentNodeMap.{ConsistentNodeMap}
 use Rattle.choosers.specs.Slots.{active, vacant}
 use Rattle.choosers.specs.SlotCalls as Slots
@@ -27,8 +27,8 @@ use Rattle.choosers.proofs.SlotLaws.{has_actives}
 use Rattle.choosers.proofs.AddLaws.{vacant_le, vacant_outside, add_room, add_no_room, add_actives, add_count, add_fits, add_bytes}
 use Rattle.choosers.proofs.RemoveLaws.{remove_active, remove_actives, remove_count, remove_fits, remove_bytes}
 use Rattle.rounds.specs.Rounds.{reservoir_of, map_of, State, fitting, After, refused, by_reservoir, by_slots, admit_call, join_call, withdraw_call}
-use Rattle.rounds.specs.Ledgers.{Call, admit, join, withdraw, Ledger, ledger, n_after, due_in, free_slot, accept, in_and_out, answer, fed}
-use Rattle.rounds.specs.Histories.{exchanged, slot_said, nothing_said, valued, call}
+use Rattle.rounds.specs.Ledgers.{Call, admit, join, withdraw, Ledger, ledger, free_slot, accept, exchanged, answer, fed}
+use Rattle.rounds.specs.Histories.{slot_said, nothing_said, valued, call}
 use Rattle.rounds.specs.Demand3.{agrees}
 use Rattle.lists.proofs.Sets.{Same, same_put, same_without}
 use Rattle.rounds.proofs.RoundLaws.{Kept, actives_of, shown, Shows, fits_kept}
@@ -71,20 +71,12 @@ module _ (s : State) (A : List ℕ) (set : Same (actives_of s) A) (kept : Kept s
 
   -- ---- admit
 
-  in_out_lem : (o : Option ℕ) → exchanged (in_out g.key g.k g.n o) ≡ in_and_out g o
-  in_out_lem none = refl
-  in_out_lem (some v) = refl
-
-  n_after_lem : (n : ℕ) (o : Option ℕ) → reached_by n o ≡ n_after n o
-  n_after_lem n none = refl
-  n_after_lem n (some v) = sym (add-one v)
-
   admit_takes : (a : Reservoir.After (Option (ℕ × ℕ))) → Admits (reservoir_of s.round) a → Takes g admit (valued exchanged (by_reservoir s a))
   unfolding accept answer
   admit_takes a m = record {
-    told_is = ap (map_told exchanged) m.told_is ∙ ap says (in_out_lem (due_in g));
+    told_is = ap (map_told exchanged) m.told_is;
     shows = record {
-      numbers = λ i. ledger (m.key_is i) (m.k_is i) ((m.n_is ∙ n_after_lem g.n (due_in g)) i) A s.round.total;
+      numbers = λ i. ledger (m.key_is i) (m.k_is i) (m.n_is i) A s.round.total;
       set = set;
       kept = record { list = m.kept; table = kept.table };
     };

@@ -11,8 +11,8 @@ use Rattle.orders.specs.ReservoirCalls.{told_exchange}
 use Rattle.rounds.specs.declared.round.Round.{Round}
 use Rattle.rounds.specs.Rounds.{State, state, after, admit_call, join_call, withdraw_call}
 use Rattle.rounds.specs.Plans.{after_plan, plan_call, shown_plan}
-use Rattle.rounds.specs.Ledgers.{Call, admit, join, withdraw, first_ledger, ledger_plan, fed_all}
-use Rattle.rounds.specs.Histories.{exchanged, slot_said, nothing_said}
+use Rattle.rounds.specs.Ledgers.{Call, admit, join, withdraw, exchanged, first_ledger, ledger_plan, fed_all}
+use Rattle.rounds.specs.Histories.{slot_said, nothing_said}
 use Rattle.rounds.specs.Demand3.{Agree, Enough}
 
 -- On s a call was made: it said w, and t stands after it. Each case has the promise of one of the six calls as it stands in the code.

@@ -1,16 +1,11 @@
 -- A list of calls on a round: what each says, and what it leaves to the next.
 -- Assumes nothing.
 use Rattle.std.specs.Prelude.{◌≡◌, List, [], ◌∷◌, ℕ}
-use Rattle.std.proofs.Math.Option.{Option, none, some}
 use Rattle.lists.specs.Told.{Told, says, map_told}
 use Rattle.rounds.specs.Rounds.{State, open_call, after_open, After, after, admit_call, join_call, withdraw_call}
-use Rattle.rounds.specs.Ledgers.{Call, admit, join, withdraw}
+use Rattle.rounds.specs.Ledgers.{Call, admit, join, withdraw, exchanged}
 
--- the values of an admit: the location in and the one out, or none
-abbrev pub exchanged : Option (ℕ × ℕ) → List ℕ
-exchanged none = []
-exchanged (some p) = p.0 ∷ p.1 ∷ []
-
+-- a call's values, as the ledger has them
 abbrev pub slot_said : ℕ → List ℕ
 slot_said x = x ∷ []
 
