@@ -1,3 +1,5 @@
 pub mod Cases
+pub mod OrderExamples
+pub mod ChooserExamples
 pub mod RoundExamples
 pub mod SessionExamples

@@ -22,4 +22,3 @@ pub mod ActiveLaws
 pub mod AddLaws
 pub mod RemoveLaws
 pub mod GetLaws
-pub mod Examples

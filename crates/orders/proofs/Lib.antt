@@ -22,5 +22,4 @@ pub mod OrderWalks
 pub mod CounterLaws
 pub mod DescentLaws
 pub mod NextLaws
-pub mod Examples
 pub mod MemoryLaws

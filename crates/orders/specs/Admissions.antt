@@ -6,7 +6,7 @@ use Rattle.std.proofs.Math.Option.{Option, none, some}
 use Rattle.lists.specs.Told.{says}
 use Rattle.lists.specs.Lists.{Exchanges}
 use Rattle.orders.specs.declared.consistent_reservoir.ConsistentReservoir.{ConsistentReservoir}
-use Rattle.orders.specs.Reservoirs.{wider, held, among, due, kth}
+use Rattle.orders.specs.Reservoirs.{wider, held, among, due, in_and_out, n_after}
 use Rattle.orders.specs.ReservoirCalls.{key_of, j_of, listed, sample, after_open, open_call, After, refused, admit_call, grow_layer_call}
 use Rattle.orders.specs.Histories.{Call, ReservoirState, after_all}
 
@@ -29,16 +29,6 @@ DueIs key k n none = NoneDue key k n
 DueIs key k n (some v) = Due key k n v
 
 -- ---- what an admit does, by the number that is due
-
--- "in is v, out the k-th of P(n)"; "With no such v: none."
-abbrev pub in_and_out : ℕ → ℕ → ℕ → Option ℕ → Option (ℕ × ℕ)
-in_and_out key k n none = none
-in_and_out key k n (some v) = some (v, kth key k n)
-
--- "n becomes v+1"; with no such v it stays
-abbrev pub n_after : ℕ → Option ℕ → ℕ
-n_after n none = n
-n_after n (some v) = v + 1
 
 -- the sample before and after: these two are exchanged, and the others keep their order; with none it stays
 abbrev pub ChangesBy : List ℕ → List ℕ → Option (ℕ × ℕ) → Type 0

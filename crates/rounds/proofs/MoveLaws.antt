@@ -17,8 +17,7 @@ use Rattle.lists.proofs.Tests.{by_test, by_same}
 use Rattle.lists.proofs.Members.{has_no}
 use Rattle.lists.proofs.Having.{has_head, has_more, has_others}
 use Rattle.orders.specs.Orders.{P}
-use Rattle.orders.specs.Reservoirs.{due, kth}
-use Rattle.orders.specs.Admissions.{in_and_out, n_after}
+use Rattle.orders.specs.Reservoirs.{due, kth, in_and_out, n_after}
 use Rattle.orders.proofs.ReservoirLaws.{sample_is}
 use Rattle.orders.proofs.AdmissionLaws.{admit_exchange}
 use Rattle.choosers.specs.Slots.{active, state_of, slot_of}

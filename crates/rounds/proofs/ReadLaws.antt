@@ -9,7 +9,7 @@ use native.Mathlib.Omega.{arith}
 use borrow.Author.Tests.{ne_eqb}
 use lib.ListN.{length, drop}
 use Rattle.lists.specs.Told.{Told, refusal, says}
-use Rattle.orders.specs.Admissions.{in_and_out}
+use Rattle.orders.specs.Reservoirs.{in_and_out}
 use Rattle.rounds.specs.Ledgers.{Call, admit, join, withdraw, Ledger, due_in, exchanged, answer}
 use Rattle.rounds.specs.Replays.{coded, coded_all, read_one, read_all}
 

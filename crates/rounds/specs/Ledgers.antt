@@ -5,8 +5,7 @@ use Rattle.std.proofs.Math.Option.{Option, none, some, get_or}
 use Rattle.lists.specs.Told.{Told, refusal, says}
 use Rattle.lists.specs.Lists.{has, without, first_from}
 use Rattle.orders.specs.Orders.{P}
-use Rattle.orders.specs.Reservoirs.{due}
-use Rattle.orders.specs.Admissions.{in_and_out, n_after}
+use Rattle.orders.specs.Reservoirs.{due, in_and_out, n_after}
 use Rattle.choosers.specs.Slots.{slot_of}
 use Rattle.rounds.specs.Plans.{Sheet, sheet}
 
