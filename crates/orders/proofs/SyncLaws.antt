@@ -86,7 +86,6 @@ pub record Goes (key j a : ℕ) (cs : List ℕ) : Type 0 where
   pub meets_none : meets key j cs ≡ false
   pub synced : Synced key j (next_number key j cs).counters (suc a)
 
-
 pub goes : (key j a : ℕ) (cs : List ℕ) → Synced key j cs a → a < 4 ^ suc j → j < length cs → Goes key j a cs
 unfolding counted output
 goes key zero a cs s h l = record {
