@@ -1,9 +1,8 @@
 -- The answers of the two calls that may refuse, by their cases: what a caller needs of them.
 -- Assumes nothing.
-use Rattle.std.proofs.Common.{◌≡◌, ℕ, ◌<◌, ◌≤◌, ◌⊎◌, inl, inr, le-ltb, lt-ltb, le-leb}
+use Rattle.std.proofs.Common.{◌≡◌, ℕ, ◌<◌, ◌≤◌, lt-ltb, le-leb}
 use borrow.Author.Tests.{lt-leb}
 use Rattle.lists.specs.Told.{refusal, says}
-use Rattle.lists.proofs.Tests.{by_below}
 use Rattle.layers.specs.Layer.{size, layer}
 use Rattle.layers.specs.Calls.{layer_apply}
 use Rattle.layers.specs.KeyedLayers.{keyed_layer, keyed}

@@ -1,11 +1,10 @@
 -- The inverse of a layer: the rounds undone, the last first. Rounds and their inverse undo each other, by one argument
 -- over the number of rounds.
 -- Assumes nothing.
-use Rattle.std.proofs.Common.{◌≡◌, ℕ, zero, suc, ◌+◌, sym, refl, ap, ◌∙◌}
-use lib.Bits.{bit_xor}
+use Rattle.std.proofs.Common.{◌≡◌, ℕ, zero, suc, sym, refl, ap, ◌∙◌}
 use Rattle.lists.proofs.Numbers.{xor_cancel}
 use Rattle.layers.specs.declared.feistel.Halves.{Halves}
-use Rattle.layers.specs.Layer.{round_count, start, round_function, next_key, round, rounds, over}
+use Rattle.layers.specs.Layer.{round_function, next_key, round, rounds}
 use Rattle.layers.specs.InnerRounds.{Within}
 use Rattle.layers.specs.Permutations.{under, undo, back}
 use Rattle.layers.proofs.RoundLaws.{function_lt}

@@ -22,7 +22,7 @@ use Rattle.lists.proofs.Exchanges.{Least}
 use Rattle.lists.proofs.Searching.{by_first}
 use Rattle.orders.specs.declared.consistent_reservoir.ConsistentReservoir.{ConsistentReservoir}
 use Rattle.orders.specs.Orders.{P}
-use Rattle.orders.specs.Reservoirs.{incoming, outputs, up_to_zeros, grown, wider, held, due, kth, in_and_out, n_after}
+use Rattle.orders.specs.Reservoirs.{incoming, outputs, up_to_zeros, grown, wider, due, kth, in_and_out, n_after}
 use Rattle.orders.specs.ReservoirCalls.{key_of, j_of, listed, sample, fitting, reservoir_of, After, after, refused, exchange_by, exchange, admit_at, admit_call}
 use Rattle.orders.specs.Admissions.{Due, DueIs, ChangesBy, Kept, ends_at, Short, Admits}
 use Rattle.orders.proofs.LogLaws.{pow_up}

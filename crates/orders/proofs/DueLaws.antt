@@ -11,7 +11,7 @@ use native.Mathlib.Numerals.{add-one}
 use native.Mathlib.Omega.{arith}
 use lib.ListN.{length, take, get_or}
 use lib.Seq.{take-suc, length-take-le}
-use Rattle.lists.specs.Lists.{keep, below, occurrences, has, without, other, Exchanges}
+use Rattle.lists.specs.Lists.{keep, below, occurrences, without, other, Exchanges}
 use Rattle.lists.proofs.Tests.{below_yes, below_no, same_yes, by_below, by_same}
 use Rattle.lists.proofs.Counting.{order_none, order_occurrences}
 use Rattle.lists.proofs.Members.{has_yes, has_no, has→occurrences, occurrences_append, occurrences_keep_yes, keep_agree, keep_append}
