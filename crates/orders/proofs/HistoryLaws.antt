@@ -20,10 +20,10 @@ use Rattle.orders.specs.Orders.{P}
 use Rattle.orders.specs.Reservoirs.{grown, held}
 use Rattle.orders.specs.ReservoirCalls.{key_of, j_of, listed, sample, fitting, AfterOpen, after_open, reservoir_of, open_call, After, after, refused, admit_call, grow_to, grow_layer_call}
 use Rattle.orders.specs.Histories.{Call, admit, grow_layer, ReservoirState, state_after, step_by, after_all}
-use Rattle.orders.specs.Admissions.{Kept, Short, Admits, AdmissionHolds, Grows, GrowthHolds}
+use Rattle.orders.specs.Admissions.{Kept, Opened, Short, Admits, AdmissionHolds, Grows, GrowthHolds}
 use Rattle.orders.proofs.LogLaws.{pow_up}
 use Rattle.orders.proofs.DueLaws.{due_holds}
-use Rattle.orders.proofs.ReservoirLaws.{fitting_kept, sample_is, written_take, written_kept, Opens, open_kept}
+use Rattle.orders.proofs.ReservoirLaws.{fitting_kept, sample_is, written_take, written_kept, open_kept}
 use Rattle.orders.proofs.AdmissionLaws.{admit_kept, admit_changes, grown_held}
 use Rattle.orders.proofs.CheckLaws.{Fits, fits_parts}
 use Rattle.orders.proofs.GrowLaws.{grow_sample}
@@ -107,13 +107,13 @@ all_reached key k [] t s = s
 all_reached key k (c ∷ cs) t s = all_reached key k cs (step_by c t) (step_reached key k c t s)
 
 -- what an open that was not refused says and leaves
-pub accepted : (k n key : ℕ) (l : List ℕ) (r : ConsistentReservoir) (l' : List ℕ) → open_call k n key l ≡ after_open (says r) l' → Opens key k n r l'
+pub accepted : (k n key : ℕ) (l : List ℕ) (r : ConsistentReservoir) (l' : List ℕ) → open_call k n key l ≡ after_open (says r) l' → Opened key k n r l'
 accepted k n key l r l' =
-    open_kept (λ o. o ≡ after_open (says r) l' → Opens key k n r l') k n key l
+    open_kept (λ o. o ≡ after_open (says r) l' → Opened key k n r l') k n key l
     (λ c q. not_said c r (ap (λ (o : AfterOpen). o.told) q))
     (λ r₁ l₁ o q. let p : r₁ ≡ r = said_same r₁ r (ap (λ (z : AfterOpen). z.told) q) in
     let m : l₁ ≡ l' = ap (λ (z : AfterOpen). z.list) q in
-    subst (λ (z : List ℕ). Opens key k n r z) m (subst (λ (z : ConsistentReservoir). Opens key k n z l₁) p o))
+    subst (λ (z : List ℕ). Opened key k n r z) m (subst (λ (z : ConsistentReservoir). Opened key k n z l₁) p o))
 
 -- from an accepted open, after any list of calls
 module _ (k n key : ℕ) (l : List ℕ) (t : ReservoirState) (is_open : open_call k n key l ≡ after_open (says t.reservoir) t.list) (cs : List Call) where
@@ -122,7 +122,7 @@ module _ (k n key : ℕ) (l : List ℕ) (t : ReservoirState) (is_open : open_cal
 
   pub reached : Reached key k now
   reached =
-      let o : Opens key k n t.reservoir t.list = accepted k n key l t.reservoir t.list is_open in
+      let o : Opened key k n t.reservoir t.list = accepted k n key l t.reservoir t.list is_open in
       all_reached key k cs t (record { key_is = o.key_is; k_is = o.k_is; kept = o.kept })
 
   -- it lists what its layer gives up to and with the k-th number below its n

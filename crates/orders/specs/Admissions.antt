@@ -46,6 +46,13 @@ pub record Kept (r : ConsistentReservoir) (l : List ℕ) : Type 0 where
   pub used_le : r.used ≤ length l
   pub list_is : listed r l ≡ held (key_of r) (j_of r) r.k r.n
 
+-- an accepted open of k of n under key leaves such a record
+pub record Opened (key k n : ℕ) (r : ConsistentReservoir) (l : List ℕ) : Type 0 where
+  pub key_is : key_of r ≡ key
+  pub k_is : r.k ≡ k
+  pub n_is : r.n ≡ n
+  pub kept : Kept r l
+
 -- the layer that an admit ends at, none where there is no such layer: "if the used length exceeds k", j; else "the first i up to 14
 -- with Li(k) above k"
 abbrev pub ends_at : ConsistentReservoir → Option ℕ

@@ -62,7 +62,7 @@ open_shows key k n s o =
     subst (λ (u : State). Shows u (first_ledger key k n)) (λ i. state (is-round i) (is-list i) s.table) (begins r l s.table q))
     o.accepted
   where
-    begins : (r : ConsistentReservoir) (l t : List ℕ) → List.Opens key k n r l → Shows (state (round_of r (Slots.map_of 0)) l t) (first_ledger key k n)
+    begins : (r : ConsistentReservoir) (l t : List ℕ) → Admissions.Opened key k n r l → Shows (state (round_of r (Slots.map_of 0)) l t) (first_ledger key k n)
     begins r l t q = record {
       numbers = λ i. ledger (q.key_is i) (q.k_is i) (q.n_is i) [] 0;
       set = λ x. rw (none_active t) refl;
