@@ -53,7 +53,7 @@ module _ (r : ConsistentReservoir) (l : List ℕ) (k0 : 0 < r.k) (k_le : r.k ≤
       j = i;
       is_due = v_due;
       j_le = i-le;
-      ends_at_lem = at;
+      at_layer = at;
       short = rw (add-one v) (omega (arith, end_length, ap length c.list, ap length (held_place (key_of r) i r.k (suc v) i-le)));
       is_refused = by_v ∙ rw (lt-ltb (length l) _ h);
     }

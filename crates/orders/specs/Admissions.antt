@@ -1,5 +1,6 @@
--- Document 01, "A plan call, followed downwards", **Reservoir**, its end: what an admit of a record reached from open says and leaves, by
--- the orders alone. The whole claim is `AdmissionHolds`, and `admission` (proofs/HistoryLaws.antt) its proof. Rounds rest on this file.
+-- Document 01, "A plan call, followed downwards", the end of **Reservoir**, with the words of **Ledger**: what an admit of a record reached
+-- from open says and leaves, by the orders alone. The whole claim is `AdmissionHolds`, and `admission` (proofs/HistoryLaws.antt) its proof.
+-- Rounds rest on this file.
 -- Assumes nothing.
 use Rattle.std.specs.Prelude.{◌≡◌, ◌⊎◌, true, false, cond, List, ℕ, suc, ◌+◌, ◌^◌, ◌≤◌, ◌<◌, ltb, length}
 use Rattle.std.proofs.Math.Option.{Option, none, some}
@@ -14,9 +15,12 @@ use Rattle.orders.specs.Histories.{Call, ReservoirState, after_all}
 
 -- v is "the smallest v from n up that is among the first k of P(v+1)", below 2^30
 pub record Due (key k n v : ℕ) : Type 0 where
+  -- "from n up", "below 2^30"
   pub from_n : n ≤ v
   pub limit : v < 2 ^ 30
+  -- "among the first k of P(v+1)"
   pub among_first : among key k v ≡ true
+  -- "the smallest"
   pub smallest : (u : ℕ) → n ≤ u → u < v → among key k u ≡ false
 
 -- "no v below 2^30 is"
@@ -37,13 +41,15 @@ ChangesBy before now (some p) = Exchanges before now p.0 p.1
 
 -- ---- a record reached from open
 
--- record and list: it lists what layer j gives, up to and with the k-th number below n
+-- record and list
 pub record Kept (r : ConsistentReservoir) (l : List ℕ) : Type 0 where
+  -- nothing of refusal 12: "k 0 or above n, n above 4^(j+1), j above 14, a used length .. past its list"
   pub some_k : 0 < r.k
   pub k_le : r.k ≤ r.n
   pub n_le : r.n ≤ 4 ^ suc (j_of r)
   pub j_le : j_of r ≤ 14
   pub used_le : r.used ≤ length l
+  -- "the list holds P(4^(j+1)) .. up to and with its k-th number below n"
   pub list_is : listed r l ≡ held (key_of r) (j_of r) r.k r.n
 
 -- an accepted open of k of n under key leaves such a record
@@ -58,23 +64,28 @@ pub record Opened (key k n : ℕ) (r : ConsistentReservoir) (l : List ℕ) : Typ
 abbrev pub ends_at : ConsistentReservoir → Option ℕ
 ends_at r = cond (ltb r.k r.used) (some (j_of r)) (wider (key_of r) r.k (j_of r))
 
--- Refusal 4, which changes nothing: a number v is due, and the list is shorter "than the used length that the call would end with", at
--- the layer that the admit ends at.
+-- refusal 4
 pub record Short (r : ConsistentReservoir) (l : List ℕ) (a : After (Option (ℕ × ℕ))) : Type 0 where
+  -- a number is due, and the layer that the admit ends at
   pub v : ℕ
   pub j : ℕ
   pub is_due : due (key_of r) r.k r.n ≡ some v
   pub j_le : j ≤ 14
-  pub ends_at_lem : ends_at r ≡ some j
+  pub at_layer : ends_at r ≡ some j
+  -- "a lent list shorter .. than the used length that the call would end with"
   pub short : length l < length (held (key_of r) j r.k (v + 1))
+  -- "a refused one changes nothing"
   pub is_refused : a ≡ refused 4 r l
 
 -- what an accepted admit says and leaves, by the number that is due
 pub record Admits (r : ConsistentReservoir) (a : After (Option (ℕ × ℕ))) : Type 0 where
+  -- "in is v, out the k-th of P(n)"; "With no such v: none."
   pub told_is : a.told ≡ says (in_and_out (key_of r) r.k r.n (due (key_of r) r.k r.n))
+  -- "key, k .. as opened", "n becomes v+1"
   pub key_is : key_of a.reservoir ≡ key_of r
   pub k_is : a.reservoir.k ≡ r.k
   pub n_is : a.reservoir.n ≡ n_after r.n (due (key_of r) r.k r.n)
+  -- "the list holds P(4^(j+1)) .. up to and with its k-th number below n", of the new n
   pub kept : Kept a.reservoir a.list
 
 -- ---- the whole claim
@@ -82,15 +93,16 @@ pub record Admits (r : ConsistentReservoir) (a : After (Option (ℕ × ℕ))) : 
 -- "So, in a record reached from open, admit brings in the smallest v from n up that is among the first k of P(v+1), and says none only
 -- where no v below 2^30 is."
 pub record Admission (key k : ℕ) (r : ConsistentReservoir) (l : List ℕ) (a : After (Option (ℕ × ℕ))) : Type 0 where
-  -- key and k are as opened, and record and list fit
+  -- "key, k .. as opened"
   pub key_is : key_of r ≡ key
   pub k_is : r.k ≡ k
+  -- "the list holds P(4^(j+1)) .. up to and with its k-th number below n"
   pub kept : Kept r l
-  -- what `due` finds is the smallest v, or there is none
+  -- what `due` finds is "the smallest v from n up that is among the first k of P(v+1)", or "no v below 2^30 is"
   pub due_is : DueIs (key_of r) r.k r.n (due (key_of r) r.k r.n)
-  -- the admit is refused 4, or says and leaves what is due,
+  -- "4 a lent list shorter than what must be written"; else "admit brings in" what is due
   pub outcome : Short r l a ⊎ Admits r a
-  -- and then nothing else of the sample changes
+  -- demand 3: "An admit changes the sample by exactly the two locations it names, one out and one in, or not at all"
   pub sample_is : Admits r a → ChangesBy (sample r l) (sample a.reservoir a.list) (in_and_out (key_of r) r.k r.n (due (key_of r) r.k r.n))
 
 -- from an accepted open, after any list of admits and grow_layers, refused ones among them
