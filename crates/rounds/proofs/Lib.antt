@@ -2,10 +2,10 @@ pub mod RoundLaws
 pub mod StepLaws
 pub mod LedgerLaws
 pub mod PlanLaws
-pub mod Demand3Laws
 pub mod MadeLaws
 pub mod UnchangedLaws
 pub mod MoveLaws
+pub mod Demand3Laws
 pub mod RefusalLaws
 pub mod ReadLaws
 pub mod ReplayLaws

@@ -22,7 +22,7 @@ use Rattle.rounds.specs.Demand3.{Reached}
 use Rattle.rounds.proofs.RoundLaws.{actives_of, shown, shows_own, fits_kept}
 use Rattle.rounds.proofs.StepLaws.{possible, Refuses, Takes, Outcome, outcome}
 use Rattle.rounds.proofs.PlanLaws.{terminal_slot}
-use Rattle.rounds.proofs.MoveLaws.{reached_kept}
+use Rattle.rounds.proofs.MadeLaws.{reached_kept}
 
 -- A call is refused for want of room, with its one number, and changes nothing; or it answers as the ledger does.
 pub reached_outcome : (s : State) → Reached s → (x : Call) → Outcome s (shown s (actives_of s)) x (call s x)

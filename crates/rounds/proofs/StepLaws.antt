@@ -12,7 +12,7 @@ use native.Mathlib.Omega.{arith}
 use borrow.Author.Tests.{eq-eqb, ne_eqb}
 use lib.Dec.{eqb}
 use lib.ListN.{length}
-use Rattle.lists.specs.Told.{Told, says, map_told}
+use Rattle.lists.specs.Told.{Told, says, map_told, is_refusal}
 use Rattle.lists.specs.Lists.{has, without}
 use Rattle.lists.proofs.Tests.{by_test, by_below, by_same, by_cond}
 use Rattle.lists.proofs.Searching.{first_same}
@@ -191,11 +191,15 @@ outcome s g h x = subst (λ (z : Ledger). Outcome s z x (call s x)) h.numbers (o
 
 -- ---- a step: the answer is the ledger's where it is no refusal, and the round after it shows the ledger fed with it
 
-pub step : (s : State) (g : Ledger) → Shows s g → (x : Call) → agrees g x (call s x).told × Shows (call s x).state (fed g x (call s x).told)
+-- what an answer w, and t after it, are to the ledger
+abbrev pub Follows : Ledger → Call → Told (List ℕ) → State → Type 0
+Follows g x w t = agrees g x w × Shows t (fed g x (is_refusal w))
+
+pub step : (s : State) (g : Ledger) → Shows s g → (x : Call) → Follows g x (call s x).told (call s x).state
 step s g h x =
     ⊎_elim
-    (λ (r : Refuses s g x (call s x)). subst (λ (a : After (List ℕ)). agrees g x a.told × Shows a.state (fed g x a.told)) (sym r.is) (tt, h))
-    (λ (t : Takes g x (call s x)). subst (λ (w : Told (List ℕ)). agrees g x w × Shows (call s x).state (fed g x w)) (sym t.told_is) (refl, t.shows))
+    (λ (r : Refuses s g x (call s x)). subst (λ (a : After (List ℕ)). Follows g x a.told a.state) (sym r.is) (tt, h))
+    (λ (t : Takes g x (call s x)). subst (λ (w : Told (List ℕ)). Follows g x w (call s x).state) (sym t.told_is) (refl, t.shows))
     (outcome s g h x)
 
 -- the list and the table keep their lengths

@@ -1,9 +1,8 @@
 pub mod Rounds
-pub mod Plans
 pub mod Ledgers
+pub mod Plans
 pub mod Histories
 pub mod Demand3
-pub mod CallsMade
 pub mod Replays
 pub mod InnerRounds
 pub mod InnerReplays
