@@ -11,8 +11,8 @@ use native.Mathlib.Omega.{arith}
 use borrow.Author.Tests.{lt-ltb, le-ltb, ltb-true}
 use lib.Dec.{ltb}
 use lib.ListN.{length}
-use Rattle.lists.specs.Told.{Told, refusal, says}
-use Rattle.lists.specs.Lists.{replace, below, up_to}
+use Rattle.lists.specs.Told.{says}
+use Rattle.lists.specs.Lists.{below, up_to}
 use Rattle.lists.proofs.Tests.{by_below, by_cond}
 use Rattle.lists.proofs.Tolds.{not_said, said_same}
 use Rattle.lists.proofs.Replacing.{replace_length}
@@ -20,9 +20,9 @@ use Rattle.lists.proofs.Searching.{by_first}
 use Rattle.orders.specs.declared.consistent_reservoir.ConsistentReservoir.{ConsistentReservoir}
 use Rattle.orders.specs.Orders.{layer_of}
 use Rattle.orders.specs.Reservoirs.{opening, outputs, up_to_zeros, grown, wider, held, due, kth}
-use Rattle.orders.specs.ReservoirCalls.{key_of, j_of, listed, fitting, reservoir_of, After, after, refused, exchange_by, exchange, admit_at, admit_call}
+use Rattle.orders.specs.ReservoirCalls.{key_of, j_of, listed, reservoir_of, After, after, refused, exchange_by, exchange, admit_at, admit_call}
 use Rattle.orders.proofs.LogLaws.{pow_up, layer_fits, layer_least, layer_in}
-use Rattle.orders.proofs.HeldLaws.{held_at, inputs_at, Enters, Next, Comes, comes, waits, grow_none}
+use Rattle.orders.proofs.HeldLaws.{held_at, Comes, comes, waits, grow_none}
 use Rattle.orders.proofs.DueLaws.{due_some, due_next, some_is, none_not}
 use Rattle.orders.proofs.ReservoirLaws.{Kept, held_place, fitting_kept, list_at, used_is, opening_held, n_in, Opens}
 use Rattle.orders.proofs.AdmissionLaws.{in_out, ends_at, Short, Admits, admit_kept, zeros_at, grown_at, k_listed, just_k, grown_held}

@@ -1,12 +1,10 @@
 -- Demand 3: the theorem.
 -- Assumes nothing.
-use mathlib.Core.Path.{◌≡◌, sym, ap, ◌∙◌}
-use Prim.Native.Nat.{ℕ}
-use Rattle.lists.specs.Told.{Told}
+use mathlib.Core.Path.{sym, ap, ◌∙◌}
 use Rattle.choosers.proofs.SlotLaws.{has_actives}
 use Rattle.rounds.specs.Rounds.{State}
-use Rattle.rounds.specs.Ledgers.{Ledger, first_ledger, Sheet, ledger_plan}
-use Rattle.rounds.specs.Demand3.{Reached, ledger_of, Shown, PlanOf, Demand3}
+use Rattle.rounds.specs.Ledgers.{Ledger, first_ledger}
+use Rattle.rounds.specs.Demand3.{ledger_of, Shown, Demand3}
 use Rattle.rounds.proofs.RoundLaws.{Shows, open_shows}
 use Rattle.rounds.proofs.MadeLaws.{all_made_shows, reached_shows}
 use Rattle.rounds.proofs.MoveLaws.{plan_shown, same_plan, eleven_none, none_eleven, withdraw_moves, join_moves, admit_samples, admit_moves}

@@ -6,7 +6,9 @@ pub mod MadeLaws
 pub mod UnchangedLaws
 pub mod MoveLaws
 pub mod Demand3Laws
+pub mod ReplyLaws
 pub mod RefusalLaws
+pub mod FleetLaws
 pub mod ReadLaws
 pub mod ReplayLaws
 pub mod RoundCallLaws

@@ -20,7 +20,7 @@ use Rattle.rounds.specs.declared.round.Round.{Round}
 use Rattle.rounds.specs.Rounds.{State, state, fitting, After, after, admit_call, join_call, withdraw_call}
 use Rattle.rounds.specs.Ledgers.{Call, admit, join, withdraw, Ledger, first_ledger, fed, fed_all}
 use Rattle.rounds.specs.Histories.{exchanged, slot_said, nothing_said, Made, admit_returned, join_returned, withdraw_returned, admit_left, join_left, withdraw_left, AllMade, made_none, made_next, refusals, valued, call, after_all, all_said}
-use Rattle.rounds.specs.Demand3.{agrees, Agree, Reached, ledger_of}
+use Rattle.rounds.specs.Demand3.{Agree, Reached, ledger_of}
 use Rattle.rounds.proofs.RoundLaws.{Kept, Shows, open_shows}
 use Rattle.rounds.proofs.StepLaws.{possible, Refuses, Takes, outcome, Follows, step}
 
@@ -166,7 +166,7 @@ call_numbered : (s : State) (g : Ledger) → Shows s g → (x : Call) → Number
 call_numbered s g h x =
     ⊎_elim
     (λ (r : Refuses s g x (call s x)). subst (λ (a : After (List ℕ)). Numbered a.told) (sym r.is) (possible_numbered x))
-    (λ (t : Takes g x (call s x)). subst Numbered (sym t.told_is) tt)
+    (λ (t : Takes s g x (call s x)). subst Numbered (sym t.told_is) tt)
     (outcome s g h x)
 
 module _ (s : State) where

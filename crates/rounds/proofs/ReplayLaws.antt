@@ -25,7 +25,7 @@ use Rattle.rounds.specs.declared.round.Round.{Round}
 use Rattle.rounds.specs.Rounds.{reservoir_of, State, state, After, AfterOpen, after_open, open_call, fitting}
 use Rattle.rounds.specs.Plans.{AfterPlan, after_plan, sampled, terminal_of, plan_call, shown_plan}
 use Rattle.rounds.specs.Ledgers.{Call, admit, join, withdraw, Ledger, first_ledger, accept, ledger_plan, fed, fed_all}
-use Rattle.rounds.specs.Histories.{nothing_said, Opens, AllMade, refusals, call, after_all, all_said}
+use Rattle.rounds.specs.Histories.{nothing_said, Opens, refusals, call, after_all, all_said}
 use Rattle.rounds.specs.Demand3.{Agree, Enough}
 use Rattle.rounds.specs.Replays.{known, call_of, coded, coded_all, read_one, read_all, AfterReplay, after_replay, run_of, opened_run, replay_call, planned_in, ByLedger, Replayed}
 use Rattle.rounds.proofs.RoundLaws.{Kept, actives_of, Shows, open_shows}
@@ -45,7 +45,7 @@ one_readable : (s : State) (g : Ledger) → Shows s g → (x : Call) → Readabl
 one_readable s g h x =
     ⊎_elim
     (λ (r : Refuses s g x (call s x)). subst (λ (a : After (List ℕ)). Readable a.told) (sym r.is) (possible_some x))
-    (λ (t : Takes g x (call s x)). subst Readable (sym t.told_is) (answer_readable g x))
+    (λ (t : Takes s g x (call s x)). subst Readable (sym t.told_is) (answer_readable g x))
     (outcome s g h x)
 
 all_readable : (calls : List Call) (s : State) (g : Ledger) → Shows s g → AllReadable (all_said s calls)

@@ -1,6 +1,6 @@
 -- Demand 3: one statement, the record `Demand3` at the end, with a field for each of its clauses.
 -- Assumes nothing.
-use Rattle.std.specs.Prelude.{◌≡◌, ◌⊎◌, ◌≢◌, Bool, true, false, cond, List, [], ◌∷◌, ℕ, ◌≤◌, min, eqb, length, Result}
+use Rattle.std.specs.Prelude.{◌≡◌, ◌⊎◌, ◌≢◌, true, false, cond, List, [], ◌∷◌, ℕ, ◌≤◌, min, eqb, length, Result}
 use Rattle.std.proofs.Math.Option.{Option, none, some}
 use Rattle.lists.specs.Told.{Told, refusal, says, is_refusal}
 use Rattle.lists.specs.Lists.{has, Exchanges}

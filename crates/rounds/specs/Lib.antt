@@ -3,6 +3,8 @@ pub mod Ledgers
 pub mod Plans
 pub mod Histories
 pub mod Demand3
+pub mod Outcomes
+pub mod Fleets
 pub mod Replays
 pub mod InnerRounds
 pub mod InnerReplays
