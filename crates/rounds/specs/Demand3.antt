@@ -107,6 +107,7 @@ pub record Demand3 : Type 0 where
   -- "The plan, asked with lists and scratch long enough, gives at each place the location and terminal that 01's ledger defines from
   -- key, k, the n reached and the set of active terminals alone."
   pub planned : (s : State) (h : Reached s) (p : Told (List Sheet)) → PlanOf s p → p ≡ ledger_plan (ledger_of h)
+  -- 01: "A is the active terminals, n the n reached."
   pub shown : (s : State) (h : Reached s) → Shown s (ledger_of h)
   -- "It is refusal 11 exactly when none is active."
   pub eleven : (s : State) → Reached s → (p : Told (List Sheet)) → PlanOf s p → (p ≡ refusal 11 → NoneActive s) × (NoneActive s → p ≡ refusal 11)
