@@ -1,21 +1,23 @@
--- What the program's own functions ask and promise of what a call says and puts out.
+-- What the program's own functions promise: after what a read gave them, where the session stands and what the writer has.
 -- Assumes nothing.
-use Rattle.std.specs.Prelude.{List, ℕ, ◌≤◌, length, take, Option, Some, None, Result, Ok, Err}
-use Rattle.std.specs.Io.KnownBytes.{Keeps, Appends}
-use Rattle.answers.specs.declared.Refusal.{Refusal}
-use Rattle.lines.specs.declared.sessions.Fed.{Fed}
+use Rattle.std.specs.Prelude.{◌≡◌, List, [], ◌∷◌, ℕ, length, Option, None}
+use Rattle.std.specs.Io.KnownBytes.{Appends}
+use Rattle.lines.specs.Sessions.{World, world, site}
+use Rattle.lines.specs.Streams.{Progress}
+use Rattle.lines.specs.Inputs.{fed, ended, emptied}
+use Rattle.lines.specs.declared.sessions.Memory.{Memory}
 
--- what was put out is within the list
-abbrev pub Within : Result Fed Refusal → List ℕ → Type 0
-Within (Ok f) out = f.put ≤ length out
-Within (Err why) out = Unit {0}
+-- what a read gave: bytes of the input, or none at its end
+abbrev pub taken_in : Progress → List ℕ → Progress
+taken_in s [] = ended s
+taken_in s (b ∷ l) = fed s (b ∷ l)
 
--- how many bytes were taken, unless the call was refused
-abbrev pub taken_of : Result Fed Refusal → Option ℕ
-taken_of (Ok f) = Some f.taken
-taken_of (Err why) = None
+-- From where the program stood before it took bytes to where it stands after them. All that this put out is written: it is behind
+-- the bytes that the writer had, where it is known which those are.
+pub record Written (before : Progress) (bytes : List ℕ) (after : Progress) (had has : Option (List ℕ)) : Type 0 where
+  pub stands : after ≡ emptied (taken_in before bytes)
+  pub text : Appends had has (taken_in before bytes).text
 
--- what was put out is behind the bytes that a writer holds, where it says which those are
-abbrev pub Written : Result Fed Refusal → List ℕ → Option (List ℕ) → Option (List ℕ) → Type 0
-Written (Ok f) out before after = Appends before after (take f.put out)
-Written (Err why) out before after = Keeps before after
+-- no round yet, in lists that are lent
+abbrev pub begun : Memory → World
+begun m = world (site None m.list.now m.table.now) m.locations.now m.terminals.now (length m.scratch.now)
