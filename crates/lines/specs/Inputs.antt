@@ -1,10 +1,8 @@
 -- Document 01, **The line program**: an input fed from its first byte to its end, with no regard to room, and lists that have the room.
 -- Assumes nothing.
-use Rattle.std.specs.Prelude.{cond, List, [], ◌∷◌, ℕ, ◌≤◌, eqb, length, take}
+use Rattle.std.specs.Prelude.{cond, List, [], ◌∷◌, ℕ, ◌≤◌, eqb, length}
 use Rattle.lines.specs.Sessions.{World}
-use Rattle.lines.specs.Streams.{held_most, Progress, progress, byte, room_for, world_of}
-use Rattle.lines.specs.declared.sessions.Session.{Session}
-use Rattle.lines.specs.declared.sessions.Memory.{Memory}
+use Rattle.lines.specs.Streams.{held_most, Progress, byte, room_for}
 
 -- byte after byte
 abbrev pub fed : Progress → List ℕ → Progress
@@ -14,14 +12,6 @@ fed s (b ∷ l) = fed (byte s b) l
 -- the end of the input: "a line feed, which the last input line may lack"
 unfoldable pub ended : Progress → Progress
 ended s = cond (eqb (length s.held) 0) s (byte s 10)
-
--- where a session stands, with what it is lent, when it has put out nothing
-abbrev pub stands : Session → List ℕ → Memory → Progress
-stands s line m = progress (world_of s m) (take s.held line) []
-
--- the same when what was put out has been written, so that the list for it is free again
-abbrev pub emptied : Progress → Progress
-emptied s = progress s.world s.held []
 
 -- Lists long enough for feed and finish, where m bytes of a line are held: the one that holds them, and the one for what is put out.
 pub record Fits (m : ℕ) (bytes : List ℕ) (w : World) (texts : List ℕ) : Type 0 where

@@ -17,10 +17,10 @@ use Rattle.lines.specs.declared.sessions.Fed.{Fed}
 use Rattle.lines.specs.Lines.{lines_of}
 use Rattle.lines.specs.Sessions.{World, answers}
 use Rattle.lines.specs.Streams.{Progress, progress, AfterFeed, after_call, feed_call, end_call}
-use Rattle.lines.specs.Inputs.{fed, ended, emptied, Fits}
+use Rattle.lines.specs.Inputs.{fed, ended, Fits}
 use Rattle.lines.proofs.StreamLaws.{behind, fed_behind, ended_behind, fed_append, fed_few, ended_bare, input_answers}
 use Rattle.lines.proofs.PartLaws.{feed_feeds, feed_within, feed_text, finish_ends, finish_within, feed_not_refused, finish_not_refused}
-use Rattle.stocktake.specs.Pieces.{taken_in, Written}
+use Rattle.stocktake.specs.Pieces.{taken_in, emptied, Written}
 
 -- ---- a call of feed or finish
 

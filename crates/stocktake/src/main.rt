@@ -8,10 +8,10 @@ ghost use Rattle.std.specs.IoError.{error_kind};
 ghost use Rattle.lines.specs.Lines.{lines_of};
 ghost use Rattle.lines.specs.Sessions.{answers};
 ghost use Rattle.lines.specs.Streams.{world_of};
-ghost use Rattle.lines.specs.Inputs.{stands, Fits};
-ghost use Rattle.stocktake.specs.Pieces.{begun, Written};
+ghost use Rattle.lines.specs.Inputs.{Fits};
+ghost use Rattle.stocktake.specs.Pieces.{stands, begun, Written};
 
-use lines::sessions::{Fed, Memory, Session};
+use lines::sessions::{Memory, Session};
 use std::io;
 use std::io::{Error, ErrorKind, Read, Write};
 
@@ -68,17 +68,17 @@ fn step<W: Write>(
         (stands session.new line.new memory.new) (W.contents writer.old) (W.contents writer.new)) }
 {
     if bytes.is_empty() {
-        let Ok(Fed { put, .. }) = session.finish(line, memory, out) else {
+        let Ok(end) = session.finish(line, memory, out) else {
             unreachable!()
         };
-        show(&out[..put], writer)?;
+        show(&out[..end.put], writer)?;
         return Ok(0);
     }
-    let Ok(Fed { taken, put }) = session.feed(bytes, line, memory, out) else {
+    let Ok(part) = session.feed(bytes, line, memory, out) else {
         unreachable!()
     };
-    show(&out[..put], writer)?;
-    Ok(taken)
+    show(&out[..part.put], writer)?;
+    Ok(part.taken)
 }
 
 // Takes in all that a read gave, and writes out the answers before it feeds on.

@@ -2,7 +2,8 @@
 -- Assumes nothing.
 use Rattle.std.proofs.Common.{ℕ, length}
 use Rattle.lines.specs.Streams.{world_of}
-use Rattle.lines.specs.Inputs.{stands, Fits}
+use Rattle.lines.specs.Inputs.{Fits}
+use Rattle.stocktake.specs.Pieces.{stands}
 use Rattle.stocktake.proofs.PieceLaws.{Going}
 use Rattle.stocktake.proofs.fed.Given as goal
 

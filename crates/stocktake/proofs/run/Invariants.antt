@@ -2,8 +2,8 @@
 -- Assumes nothing.
 use Rattle.std.proofs.Common.{ℕ, length, ◌<◌}
 use Rattle.lines.specs.Streams.{world_of}
-use Rattle.lines.specs.Inputs.{stands, Fits}
-use Rattle.stocktake.specs.Pieces.{begun}
+use Rattle.lines.specs.Inputs.{Fits}
+use Rattle.stocktake.specs.Pieces.{stands, begun}
 use Rattle.stocktake.proofs.PieceLaws.{Running}
 use Rattle.stocktake.proofs.run.Given as goal
 

@@ -3,7 +3,7 @@
 use Rattle.std.proofs.Common.{◌≡◌, ◌≤◌, ◌<◌, List, [], length, take, arith, sym, length-take-le}
 use borrow.Author.Tests.{eqb-false}
 use Rattle.lines.specs.Streams.{world_of}
-use Rattle.lines.specs.Inputs.{stands}
+use Rattle.stocktake.specs.Pieces.{stands}
 use Rattle.stocktake.proofs.PieceLaws.{Stepped, step_written, feed_accepted, finish_accepted, feed_took, feed_stepped, finish_stepped}
 use Rattle.stocktake.proofs.step.Given.{Over}
 use Rattle.stocktake.proofs.step.Goals as goal
@@ -17,17 +17,17 @@ unreachable-requires-in_default-feed g c = feed_accepted _ _ _ _ c.requires _ c.
 
 -- the end
 ended : (g : Over) (c : In-Ok g) → Stepped (stands c.args.session.now c.args.line.now c.args.memory.now) [] c.finish.new.self.held c.finish.new.line
-    (world_of c.finish.new.self c.finish.new.memory) c.finish.new.out c.in-Ok.field-0.put
+    (world_of c.finish.new.self c.finish.new.memory) c.finish.new.out c.in-Ok.end.put
 ended g c =
-    finish_stepped _ _ _ _ c.requires c.in-Ok.field-0 c.finish.new.self _ _ _ c.in-Ok.ensures.buffers_after.0 (omega (arith, c.finish.ensures.lent)) c.finish.auto.out
+    finish_stepped _ _ _ _ c.requires c.in-Ok.end c.finish.new.self _ _ _ c.in-Ok.ensures.buffers_after.0 (omega (arith, c.finish.ensures.lent)) c.finish.auto.out
     c.in-Ok.ensures.answer
 
 -- bytes
-went : (g : Over) (c : In-Ok-feed g) → Stepped (stands c.args.session.now c.args.line.now c.args.memory.now) (take c.in-Ok-feed.field-0.taken c.args.bytes.now)
-    c.feed.new.self.held c.feed.new.line (world_of c.feed.new.self c.feed.new.memory) c.feed.new.out c.in-Ok-feed.field-0.put
+went : (g : Over) (c : In-Ok-feed g) → Stepped (stands c.args.session.now c.args.line.now c.args.memory.now) (take c.in-Ok-feed.part.taken c.args.bytes.now)
+    c.feed.new.self.held c.feed.new.line (world_of c.feed.new.self c.feed.new.memory) c.feed.new.out c.in-Ok-feed.part.put
 went g c =
     let some : 0 < length c.args.bytes.now = omega (arith, eqb-false (length c.args.bytes.now) 0 (sym c.if-is_empty.ensures)) in
-    feed_stepped _ _ _ _ c.requires c.in-Ok-feed.field-0 c.feed.new.self _ _ _ c.in-Ok-feed.ensures.buffers_after.0 (omega (arith, c.feed.ensures.lent)) c.feed.auto.out
+    feed_stepped _ _ _ _ c.requires c.in-Ok-feed.part c.feed.new.self _ _ _ c.in-Ok-feed.ensures.buffers_after.0 (omega (arith, c.feed.ensures.lent)) c.feed.auto.out
     _ some c.in-Ok-feed.ensures.answer
 
 pub slice_bounds-show-end : goal.slice_bounds-show-end
@@ -58,10 +58,10 @@ pub returns-clause-fits : goal.returns-clause-fits
 returns-clause-fits g c = (went g (goal.at.returns-clause-fits g c).In-Ok-feed).fits
 
 pub returns-clause-within : goal.returns-clause-within
-returns-clause-within g c = (feed_took _ _ _ _ c.requires c.in-Ok-feed.field-0 c.feed.new.self _ _ _ _ c.in-Ok-feed.ensures.answer).0
+returns-clause-within g c = (feed_took _ _ _ _ c.requires c.in-Ok-feed.part c.feed.new.self _ _ _ _ c.in-Ok-feed.ensures.answer).0
 
 pub returns-clause-some : goal.returns-clause-some
-returns-clause-some g c = (feed_took _ _ _ _ c.requires c.in-Ok-feed.field-0 c.feed.new.self _ _ _ _ c.in-Ok-feed.ensures.answer).1
+returns-clause-some g c = (feed_took _ _ _ _ c.requires c.in-Ok-feed.part c.feed.new.self _ _ _ _ c.in-Ok-feed.ensures.answer).1
 
 pub returns-clause-written : goal.returns-clause-written
 returns-clause-written g c = step_written (went g (goal.at.returns-clause-written g c).In-Ok-feed) _ _ c.in_ok-show-2.ensures
