@@ -111,7 +111,7 @@ pub record Going (start : Progress) (piece : List ℕ) (now : Progress) (rest : 
 pub going_starts : (s : Progress) (piece : List ℕ) (had : Option (List ℕ)) → Going s piece s piece had had
 going_starts s piece had = record { sofar = []; is = refl; puts = Appends-nil had }
 
-module _ {start now now' : Progress} {piece rest : List ℕ} {had has has' : Option (List ℕ)} (n : ℕ) (going : Going start piece now rest had has)
+module _ {start now : Progress} {piece rest : List ℕ} {had has has' : Option (List ℕ)} (now' : Progress) (n : ℕ) (going : Going start piece now rest had has)
     (step : Written now (take n rest) now' has has') where
   pub going_on : (left : List ℕ) → left ≡ drop n rest → 0 < length left → (0 < length rest → 0 < n) → Going start piece now' left had has'
   going_on left e h some =
@@ -155,7 +155,7 @@ pub record Running (w : World) (now : Progress) (given left had has : Option (Li
 pub running_starts : (w : World) (given had : Option (List ℕ)) → Running w (progress w [] []) given given had had
 running_starts w given had = record { bytes = []; sofar = []; read = Consumes-nil given; is = refl; puts = Appends-nil had }
 
-module _ {w : World} {now now' : Progress} {given left had has has' : Option (List ℕ)} (left' : Option (List ℕ)) (piece : List ℕ)
+module _ {w : World} {now : Progress} {given left had has has' : Option (List ℕ)} (now' : Progress) (left' : Option (List ℕ)) (piece : List ℕ)
     (so : Running w now given left had has) (step : Written now piece now' has has') (took : Consumes left left' piece) where
   pub running_on : 0 < length piece → Running w now' given left' had has'
   running_on p =

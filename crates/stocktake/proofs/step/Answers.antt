@@ -31,10 +31,10 @@ went g c =
     _ some c.in-Ok-feed.ensures.answer
 
 pub slice_bounds-show-end : goal.slice_bounds-show-end
-slice_bounds-show-end g c = (ended g c).within
+slice_bounds-show-end g c = omega (arith, (ended g (goal.at.slice_bounds-show-end g c).In-Ok).within)
 
 pub slice_bounds-show-end-then-is_empty : goal.slice_bounds-show-end-then-is_empty
-slice_bounds-show-end-then-is_empty g c = sym (length-take-le _ _ (ended g c).within)
+slice_bounds-show-end-then-is_empty g c = sym (length-take-le _ _ (omega (arith, (ended g (goal.at.slice_bounds-show-end-then-is_empty g c).In-Ok).within)))
 
 pub returns-in_err-show-clause-fits : goal.returns-in_err-show-clause-fits
 returns-in_err-show-clause-fits g c = (ended g (goal.at.returns-in_err-show-clause-fits g c).In-Ok).fits
@@ -46,10 +46,10 @@ pub returns-then-is_empty-clause-written : goal.returns-then-is_empty-clause-wri
 returns-then-is_empty-clause-written g c = step_written (ended g (goal.at.returns-then-is_empty-clause-written g c).In-Ok) _ _ c.in_ok-show.ensures
 
 pub slice_bounds-show-end-2 : goal.slice_bounds-show-end-2
-slice_bounds-show-end-2 g c = (went g c).within
+slice_bounds-show-end-2 g c = omega (arith, (went g (goal.at.slice_bounds-show-end-2 g c).In-Ok-feed).within)
 
 pub slice_bounds-show-end-3 : goal.slice_bounds-show-end-3
-slice_bounds-show-end-3 g c = sym (length-take-le _ _ (went g c).within)
+slice_bounds-show-end-3 g c = sym (length-take-le _ _ (omega (arith, (went g (goal.at.slice_bounds-show-end-3 g c).In-Ok-feed).within)))
 
 pub returns-in_err-show-2-clause-fits : goal.returns-in_err-show-2-clause-fits
 returns-in_err-show-2-clause-fits g c = (went g (goal.at.returns-in_err-show-2-clause-fits g c).In-Ok-feed).fits
