@@ -16,6 +16,14 @@ stands s line m = progress (world_of s m) (take s.held line) []
 abbrev pub begun : Memory → World
 begun m = world (site None m.list.now m.table.now) m.locations.now m.terminals.now (length m.scratch.now)
 
+-- "Lists of 8,192 numbers and 512 slots are its own arrays": so are the plan's two lists, and there is a place of scratch for each slot
+pub record Own (m : Memory) : Type 0 where
+  pub list : length m.list.now ≡ 8192
+  pub table : length m.table.now ≡ 512
+  pub locations : length m.locations.now ≡ 8192
+  pub terminals : length m.terminals.now ≡ 8192
+  pub scratch : length m.scratch.now ≡ 512
+
 -- what a read gave: bytes of the input, or none at its end
 abbrev pub taken_in : Progress → List ℕ → Progress
 taken_in s [] = ended s

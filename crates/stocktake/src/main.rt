@@ -9,7 +9,7 @@ ghost use Rattle.lines.specs.Lines.{lines_of};
 ghost use Rattle.lines.specs.Sessions.{answers};
 ghost use Rattle.lines.specs.Streams.{world_of};
 ghost use Rattle.lines.specs.Inputs.{Fits};
-ghost use Rattle.stocktake.specs.Pieces.{stands, begun, Written};
+ghost use Rattle.stocktake.specs.Pieces.{stands, begun, Own, Written};
 
 use lines::sessions::{Memory, Session};
 use std::io;
@@ -114,6 +114,7 @@ fn run<R: Read, W: Write>(
     memory: &mut Memory,
     out: &mut [u8],
 ) -> io::Result<()>
+    requires own { Own memory.old }
     requires input { 0 < length input.old }
     requires fits { Fits 0 line.old (begun memory.old) out.old }
     ensures end { OnOk result (IsAtEnd (R.remaining reader.new)) }
