@@ -6,7 +6,7 @@ use Prim.Native.Nat.{ℕ, ◌≤◌, ◌<◌, ◌-◌}
 use native.Mathlib.Omega.{arith}
 use lib.ListN.{length, take, drop, length-take, length-drop, take-append-drop}
 use lib.Seq.{length-take-le, take_all}
-use Rattle.std.specs.Prelude.{Option, Some, Result, Ok, Err, IfSome}
+use Rattle.std.specs.Prelude.{Option, Ok, Err, IfSome}
 use Rattle.std.specs.Io.KnownBytes.{Appends, Consumes, IsAtEnd}
 use Rattle.std.proofs.KnownBytes.{Appends-nil, Appends-trans, Consumes-nil, Consumes-trans, Consumes-whole}
 use Rattle.answers.specs.declared.Refusal.{Refusal}
@@ -166,10 +166,10 @@ module _ {w : World} {now : Progress} {given left had has has' : Option (List �
         sofar = so.sofar ++ x.text;
         read = Consumes-trans given left left' so.bytes piece so.read took;
         is = fed_append (progress w [] []) so.bytes piece
-        ∙ ap (λ (s : Progress). fed s piece) so.is
-        ∙ fed_behind so.sofar now piece
-        ∙ ap (behind so.sofar) (fed_on x now' [] (step.stands ∙ ap emptied part))
-        ∙ behind_both so.sofar x.text now';
+            ∙ ap (λ (s : Progress). fed s piece) so.is
+            ∙ fed_behind so.sofar now piece
+            ∙ ap (behind so.sofar) (fed_on x now' [] (step.stands ∙ ap emptied part))
+            ∙ behind_both so.sofar x.text now';
         puts = Appends-trans had has has' so.sofar x.text so.puts (subst (λ (s : Progress). Appends has has' s.text) part step.text);
       }
 

@@ -1,6 +1,6 @@
 -- `stocktake::fed` meets its contract.
 -- Assumes nothing.
-use Rattle.std.proofs.Common.{◌≡◌, ◌<◌, ◌≤◌, ◌-◌, List, length, take, drop, length-take, length-drop, arith, sym}
+use Rattle.std.proofs.Common.{◌≡◌, ◌<◌, ◌-◌, length, take, drop, length-take, length-drop, arith, sym}
 use borrow.Author.Tests.{eqb-true, eqb-false}
 use lib.Seq.{take_all}
 use Rattle.stocktake.specs.Pieces.{stands}

@@ -1,6 +1,6 @@
 -- The loop of `stocktake::fed`.
 -- Assumes nothing.
-use Rattle.std.proofs.Common.{ℕ, length}
+use Rattle.std.proofs.Common.{length}
 use Rattle.lines.specs.Streams.{world_of}
 use Rattle.lines.specs.Inputs.{Fits}
 use Rattle.stocktake.specs.Pieces.{stands}

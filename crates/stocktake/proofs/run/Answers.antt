@@ -1,6 +1,6 @@
 -- `stocktake::run` meets its contract.
 -- Assumes nothing.
-use Rattle.std.proofs.Common.{◌≡◌, ◌<◌, List, length, take, length-take, arith}
+use Rattle.std.proofs.Common.{◌<◌, length, take, length-take, arith}
 use Rattle.stocktake.specs.Pieces.{stands}
 use Rattle.stocktake.proofs.PieceLaws.{running_starts, running_on, running_ends}
 use Rattle.stocktake.proofs.run.Goals as goal

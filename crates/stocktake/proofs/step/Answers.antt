@@ -1,6 +1,6 @@
 -- `stocktake::step` meets its contract.
 -- Assumes nothing.
-use Rattle.std.proofs.Common.{◌≡◌, ◌≤◌, ◌<◌, List, [], length, take, arith, sym, length-take-le}
+use Rattle.std.proofs.Common.{◌<◌, [], length, take, arith, sym, length-take-le}
 use borrow.Author.Tests.{eqb-false}
 use Rattle.lines.specs.Streams.{world_of}
 use Rattle.stocktake.specs.Pieces.{stands}
