@@ -81,7 +81,7 @@ fn step<W: Write>(
     Ok(part.taken)
 }
 
-// Takes in all that a read gave, and writes out the answers before it feeds on.
+// Takes in all that a read gave, and writes out the answers before it feeds on. No byte is the end, which is one call too.
 fn fed<W: Write>(
     session: &mut Session,
     piece: &[u8],
@@ -105,7 +105,7 @@ fn fed<W: Write>(
     }
 }
 
-// Answers the whole input, from no round and nothing held.
+// Answers the whole input, from no round and nothing held, in lists as long as document 01 has them.
 fn run<R: Read, W: Write>(
     reader: &mut R,
     writer: &mut W,
