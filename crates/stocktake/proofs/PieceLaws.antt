@@ -53,7 +53,8 @@ module _ (w : World) (line : List ℕ) (m : ℕ) (out : List ℕ) (fits : Fits m
   finish_accepted why s w' line' out' is = finish_not_refused w line m out fits (number why) (sym (ap (λ (a : AfterFeed). a.told) is))
 
   module _ (f : Fed) (s : Session) (w' : World) (line' out' : List ℕ) where
-    pub feed_took : (piece : List ℕ) → after_call (Ok f) s w' line' out' ≡ feed_call w line m piece out → (f.taken ≤ length piece) × (0 < length piece → 0 < f.taken)
+    pub feed_took : (piece : List ℕ) → after_call (Ok f) s w' line' out' ≡ feed_call w line m piece out
+        → (f.taken ≤ length piece) × (0 < length piece → 0 < f.taken)
     feed_took piece is =
         let done = feed_feeds w line m piece out f.taken f.put (sym (ap (λ (a : AfterFeed). a.told) is)) in
         (done.inside, done.some)
@@ -70,9 +71,14 @@ module _ (w : World) (line : List ℕ) (m : ℕ) (out : List ℕ) (fits : Fits m
           let few : length (take m line) ≤ 81 = omega (arith, fits.held, length-take m line) in
           let size : s.held ≡ length (fed start t).held = ap (λ (a : AfterFeed). a.size) is ∙ done.size_is ∙ ap length done.held_is in
           record {
-            fits = record { held = omega (arith, size, fed_few start t few); line = omega (arith, kept, fits.line); out = omega (arith, same, long, fits.out) };
+            fits = record {
+              held = omega (arith, size, fed_few start t few);
+              line = omega (arith, kept, fits.line);
+              out = omega (arith, same, long, fits.out);
+            };
             within = omega (arith, feed_within done (sym (ap length o) ∙ long), long);
-            stands = (λ i. progress ((ap (λ (a : AfterFeed). a.world) is ∙ done.world_is) i) ((ap (λ (a : AfterFeed). a.held) is ∙ done.held_is) i) []) ∙ ap emptied all;
+            stands = (λ i. progress ((ap (λ (a : AfterFeed). a.world) is ∙ done.world_is) i) ((ap (λ (a : AfterFeed). a.held) is ∙ done.held_is) i) [])
+                ∙ ap emptied all;
             text = ap (take f.put) o ∙ feed_text done ∙ ap (λ (x : Progress). x.text) all;
           }
 
@@ -82,7 +88,11 @@ module _ (w : World) (line : List ℕ) (m : ℕ) (out : List ℕ) (fits : Fits m
           let o : out' ≡ (end_call w line m out).out = ap (λ (a : AfterFeed). a.out) is in
           let none : take s.held line' ≡ [] = ap (λ (a : AfterFeed). a.held) is ∙ done.held_is in
           record {
-            fits = record { held = omega (arith, ap length none, length-take s.held line', kept, fits.line); line = omega (arith, kept, fits.line); out = omega (arith, same, long, fits.out) };
+            fits = record {
+              held = omega (arith, ap length none, length-take s.held line', kept, fits.line);
+              line = omega (arith, kept, fits.line);
+              out = omega (arith, same, long, fits.out);
+            };
             within = omega (arith, finish_within done (sym (ap length o) ∙ long), long);
             stands = λ i. progress ((ap (λ (a : AfterFeed). a.world) is ∙ done.world_is) i) ((none ∙ sym (ended_bare w (take m line) [])) i) [];
             text = ap (take f.put) (o ∙ done.out_is) ∙ written_take f.put (ended start).text out (sym done.put_is);
@@ -111,8 +121,8 @@ pub record Going (start : Progress) (piece : List ℕ) (now : Progress) (rest : 
 pub going_starts : (s : Progress) (piece : List ℕ) (had : Option (List ℕ)) → Going s piece s piece had had
 going_starts s piece had = record { sofar = []; is = refl; puts = Appends-nil had }
 
-module _ {start now : Progress} {piece rest : List ℕ} {had has has' : Option (List ℕ)} (now' : Progress) (n : ℕ) (going : Going start piece now rest had has)
-    (step : Written now (take n rest) now' has has') where
+module _ {start now : Progress} {piece rest : List ℕ} {had has has' : Option (List ℕ)} (now' : Progress) (n : ℕ)
+    (going : Going start piece now rest had has) (step : Written now (take n rest) now' has has') where
   pub going_on : (left : List ℕ) → left ≡ drop n rest → 0 < length left → (0 < length rest → 0 < n) → Going start piece now' left had has'
   going_on left e h some =
       let long : length left ≡ length rest - n = ap length e ∙ length-drop n rest in
@@ -136,7 +146,8 @@ module _ {start now : Progress} {piece rest : List ℕ} {had has has' : Option (
   pub going_ends : length rest ≤ n → Written start piece now' had has'
   going_ends h =
       let last = taken_in now (take n rest) in
-      let all : taken_in start piece ≡ behind going.sofar last = going.is ∙ ap (λ (l : List ℕ). behind going.sofar (taken_in now l)) (sym (take_all n rest h)) in
+      let all : taken_in start piece ≡ behind going.sofar last =
+      going.is ∙ ap (λ (l : List ℕ). behind going.sofar (taken_in now l)) (sym (take_all n rest h)) in
       record {
         stands = step.stands ∙ sym (ap emptied all);
         text = subst (λ (s : Progress). Appends had has' s.text) (sym all) (Appends-trans had has has' going.sofar last.text going.puts step.text);
@@ -183,7 +194,8 @@ module _ {w : World} {now : Progress} {given left had has has' : Option (List �
       ∙ ap (λ (s : Progress). (ended s).text) (sym so.is)
       ∙ input_answers w so.bytes
       ∙ ap (λ (l : List ℕ). answers w (lines_of l)) (sym (append-nil so.bytes) ∙ ap (λ (l : List ℕ). so.bytes ++ l) (sym none)) in
-      Consumes-whole given left' (so.bytes ++ piece) (λ xs. Appends had has' (answers w (lines_of xs))) (Consumes-trans given left left' so.bytes piece so.read took) end
+      Consumes-whole given left' (so.bytes ++ piece) (λ xs. Appends had has' (answers w (lines_of xs)))
+      (Consumes-trans given left left' so.bytes piece so.read took) end
       (subst (Appends had has') text (Appends-trans had has has' so.sofar last.text so.puts step.text))
     where
       no_bytes : (l : List ℕ) → length l ≡ 0 → l ≡ []
