@@ -3,3 +3,4 @@ pub mod OrderExamples
 pub mod ChooserExamples
 pub mod RoundExamples
 pub mod SessionExamples
+pub mod FleetExamples

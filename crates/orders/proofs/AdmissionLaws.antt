@@ -24,11 +24,11 @@ use Rattle.orders.specs.declared.consistent_reservoir.ConsistentReservoir.{Consi
 use Rattle.orders.specs.Orders.{P}
 use Rattle.orders.specs.Reservoirs.{incoming, outputs, up_to_zeros, grown, wider, due, kth, in_and_out, n_after}
 use Rattle.orders.specs.ReservoirCalls.{key_of, j_of, listed, sample, fitting, reservoir_of, After, after, refused, exchange_by, exchange, admit_at, admit_call}
-use Rattle.orders.specs.Admissions.{Due, DueIs, ChangesBy, Kept, ends_at, Short, Admits}
+use Rattle.orders.specs.Admissions.{ChangesBy, Kept, ends_at, Short, Admits}
 use Rattle.orders.proofs.LogLaws.{pow_up}
 use Rattle.orders.proofs.OrderLaws.{zero_top_lem, low_outputs}
 use Rattle.orders.proofs.HeldLaws.{held_at, inputs_at, Comes, comes, waits, held_long, grow_through, grow_to_lem, grow_none}
-use Rattle.orders.proofs.DueLaws.{due_some, due_none, due_holds, due_next, next_exchange}
+use Rattle.orders.proofs.DueLaws.{due_some, due_none, due_next, next_exchange}
 use Rattle.orders.proofs.ReservoirLaws.{held_place, written_kept, sample_is, fitting_kept, list_at, used_is}
 
 -- ---- an exchange
@@ -98,7 +98,7 @@ unfolding grown
 grown_at key i k olds = (λ t. replace (zero_top_lem i t) (zeros_at key i k t) olds)
 
 module _ (r : ConsistentReservoir) (l : List ℕ) (s : Kept r l) (full : r.used ≤ r.k) where
-  k_listed : length (held_at (key_of r) (suc (j_of r)) r.k r.n) ≡ r.k
+  pub k_listed : length (held_at (key_of r) (suc (j_of r)) r.k r.n) ≡ r.k
   k_listed =
       omega (arith, ap length (list_at r l s), used_is r l s, held_long (key_of r) (suc (j_of r)) r.k r.n (omega (arith, s.j_le)) s.k_le s.n_le)
 
@@ -106,7 +106,7 @@ module _ (r : ConsistentReservoir) (l : List ℕ) (s : Kept r l) (full : r.used 
   up i h = omega (arith, s.n_le, pow_up (suc (j_of r)) i h)
 
   -- a layer that is passed over takes just k outputs
-  just_k : (i : ℕ) → j_of r < i → ltb r.k (length (up_to_zeros (key_of r) i r.k)) ≡ false → inputs_at (key_of r) i r.k ≡ r.k
+  pub just_k : (i : ℕ) → j_of r < i → ltb r.k (length (up_to_zeros (key_of r) i r.k)) ≡ false → inputs_at (key_of r) i r.k ≡ r.k
   just_k i h f =
       omega (
         arith,
@@ -198,8 +198,8 @@ pub admit_exchange : (r : ConsistentReservoir) (l : List ℕ) → Kept r l → (
 admit_exchange r l s r' l' s' ekey ek v d en =
     let before : sample r l ≡ take r.k (P (key_of r) r.n) = sample_is r l s in
     let now : sample r' l' ≡ take r.k (P (key_of r) (suc v)) = sample_is r' l' s' ∙ (λ i. take (ek i) (P (ekey i) ((en ∙ add-one v) i))) in
-    let x : Due (key_of r) r.k r.n v = subst (DueIs (key_of r) r.k r.n) d (due_holds (key_of r) r.k r.n) in
-    rw (before, now) (next_exchange (key_of r) r.k r.n v s.some_k s.k_le (due_next (key_of r) r.k r.n v x) x.limit)
+    let x = due_next (key_of r) r.k r.n v d in
+    rw (before, now) (next_exchange (key_of r) r.k r.n v s.some_k s.k_le x.1 x.0)
 
 -- by what is due: with none the sample stays
 pub admit_changes : (r : ConsistentReservoir) (l : List ℕ) → Kept r l → (r' : ConsistentReservoir) (l' : List ℕ) → Kept r' l' → key_of r' ≡ key_of r → r'.k ≡ r.k

@@ -51,14 +51,23 @@ due_holds key k n =
     (λ i f a b y z. subst (DueIs key k n) (sym f) (record { from_n = a; limit = omega arith; among_first = y; smallest = z }))
     (λ f z. subst (DueIs key k n) (sym f) (λ u a b. z u a (omega arith)))
 
+pub some_is : (i v : ℕ) → some i ≡ some v → i ≡ v
+some_is i v e = cc
+
+pub none_not : (v : ℕ) → none ≡ some v → ⊥
+none_not v e = let z : true ≡ false = cc in true≢false z
+
 -- by how often it stands there
-pub due_next : (key k n v : ℕ) → Due key k n v → Next key k n v
-due_next key k n v d =
-    record {
-      large = d.from_n;
-      enters = has→occurrences v (take k (P key (suc v))) (rw (add-one v) at d.among_first);
-      first = λ u a b h. true≢false (sym (enters_yes key k u h) ∙ d.smallest u a b);
-    }
+pub due_next : (key k n v : ℕ) → due key k n ≡ some v → (v < 2 ^ 30) × Next key k n v
+due_next key k n v e =
+    let d : Due key k n v = subst (DueIs key k n) e (due_holds key k n) in (
+      d.limit,
+      record {
+        large = d.from_n;
+        enters = has→occurrences v (take k (P key (suc v))) (rw (add-one v) at d.among_first);
+        first = λ u a b h. true≢false (sym (enters_yes key k u h) ∙ d.smallest u a b);
+      },
+    )
 
 -- ---- the first k of P(n) and of a later order
 

@@ -23,3 +23,4 @@ pub mod CounterLaws
 pub mod DescentLaws
 pub mod NextLaws
 pub mod MemoryLaws
+pub mod AnewLaws

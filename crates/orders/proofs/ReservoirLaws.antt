@@ -136,5 +136,6 @@ open_kept Q k n key l out in' =
       key_is = refl;
       k_is = refl;
       n_is = refl;
+      layer_is = refl;
       kept = written_kept key k n (layer_of n) (length (opening key k n)) (opening key k n) l (omega arith) (ltb-false n k m3) (layer_fits n) (layer_in n b) refl (opening_held key k n b);
     })))))))))

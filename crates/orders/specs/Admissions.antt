@@ -7,6 +7,7 @@ use Rattle.std.proofs.Math.Option.{Option, none, some}
 use Rattle.lists.specs.Told.{says}
 use Rattle.lists.specs.Lists.{Exchanges}
 use Rattle.orders.specs.declared.consistent_reservoir.ConsistentReservoir.{ConsistentReservoir}
+use Rattle.orders.specs.Orders.{layer_of}
 use Rattle.orders.specs.Reservoirs.{wider, held, among, due, in_and_out, n_after}
 use Rattle.orders.specs.ReservoirCalls.{key_of, j_of, listed, sample, after_open, open_call, After, refused, admit_call, grow_layer_call}
 use Rattle.orders.specs.Histories.{Call, ReservoirState, after_all}
@@ -57,6 +58,7 @@ pub record Opened (key k n : ℕ) (r : ConsistentReservoir) (l : List ℕ) : Typ
   pub key_is : key_of r ≡ key
   pub k_is : r.k ≡ k
   pub n_is : r.n ≡ n
+  pub layer_is : j_of r ≡ layer_of n
   pub kept : Kept r l
 
 -- the layer that an admit ends at, none where there is no such layer: "if the used length exceeds k", j; else "the first i up to 14
