@@ -1,5 +1,6 @@
 pub mod Layer
 pub mod Calls
 pub mod KeyedLayers
+pub mod RefusedBy
 pub mod InnerRows
 pub mod InnerRounds

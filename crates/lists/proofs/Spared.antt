@@ -1,0 +1,30 @@
+-- What a call's law on its refusals gives: of a refusal that it said, and of a call that says the same in other words.
+-- Assumes nothing.
+use mathlib.Core.Path.{◌≡◌, sym, subst}
+use mathlib.Core.Bool.{true}
+use mathlib.Core.List.{List}
+use Prim.Native.Nat.{ℕ}
+use Rattle.lists.specs.Told.{Told, refusal, says, map_told}
+use Rattle.lists.specs.Lists.{has}
+use Rattle.lists.specs.Refusing.{Among, Spares}
+use Rattle.lists.proofs.Tolds.{not_said, refusal_same}
+
+-- what was refused has one of the numbers,
+pub among_number : {A : Type 0} (ws : List ℕ) (t : Told A) (w : ℕ) → Among ws t → t ≡ refusal w → has w ws ≡ true
+among_number ws (refusal v) w a e = subst (λ (x : ℕ). has x ws ≡ true) (refusal_same v w e) a
+among_number ws (says x) w a e = not_said w x (sym e)
+
+-- also where it might have written,
+pub spared_among : {A M : Type 0} (ws : List ℕ) (t : Told A) (before now : M) → Spares ws t before now → Among ws t
+spared_among ws (refusal w) before now s = s.0
+spared_among ws (says x) before now s = tt
+
+-- and there all stands as before.
+pub spared_same : {A M : Type 0} (ws : List ℕ) (t : Told A) (before now : M) (w : ℕ) → Spares ws t before now → t ≡ refusal w → now ≡ before
+spared_same ws (refusal v) before now w s e = s.1
+spared_same ws (says x) before now w s e = not_said w x (sym e)
+
+-- An answer in other words makes no other refusal.
+pub spared_mapped : {A B M : Type 0} (f : A → B) (ws : List ℕ) (t : Told A) (before now : M) → Spares ws t before now → Spares ws (map_told f t) before now
+spared_mapped f ws (refusal w) before now s = s
+spared_mapped f ws (says x) before now s = tt
