@@ -39,7 +39,7 @@ pub rising_refuses : (n s : ℕ) → Among walk_refusals (rising_from n s)
 unfolding has same
 rising_refuses n s = limited_refuses walk_refusals n _ refl
 
-pub fall_refuses : (w : ConsistentHashRevIterator) → Spares fall_refusals (fall w).said w (fall w).walk
+pub fall_refuses : (w : ConsistentHashRevIterator) → let s = fall w in Spares fall_refusals s.said w s.walk
 unfolding fall has same
 fall_refuses w = by_cond Spared (ltb (2 ^ 62) w.n) _ _ (λ above. (refl, refl)) (λ not. goes (prev w.state w.n))
   where

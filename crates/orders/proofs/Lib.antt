@@ -24,3 +24,4 @@ pub mod DescentLaws
 pub mod NextLaws
 pub mod Examples
 pub mod MemoryLaws
+pub mod RefusedLaws
