@@ -23,3 +23,4 @@ pub mod AddLaws
 pub mod RemoveLaws
 pub mod GetLaws
 pub mod Examples
+pub mod RefusedLaws
