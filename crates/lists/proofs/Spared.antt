@@ -1,6 +1,6 @@
 -- What a call's law on its refusals gives: of a refusal that it said, and of a call that says the same in other words.
 -- Assumes nothing.
-use mathlib.Core.Path.{◌≡◌, sym, subst}
+use mathlib.Core.Path.{◌≡◌, sym, ap, subst}
 use mathlib.Core.Bool.{true}
 use mathlib.Core.List.{List}
 use Prim.Native.Nat.{ℕ}
@@ -28,3 +28,13 @@ spared_same ws (says x) before now w s e = not_said w x (sym e)
 pub spared_mapped : {A B M : Type 0} (f : A → B) (ws : List ℕ) (t : Told A) (before now : M) → Spares ws t before now → Spares ws (map_told f t) before now
 spared_mapped f ws (refusal w) before now s = s
 spared_mapped f ws (says x) before now s = tt
+
+-- What is made of all that was lent is as it was too.
+pub spared_under : {A M N : Type 0} (f : M → N) (ws : List ℕ) (t : Told A) (before now : M) → Spares ws t before now → Spares ws t (f before) (f now)
+spared_under f ws (refusal w) before now s = (s.0, ap f s.1)
+spared_under f ws (says x) before now s = tt
+
+-- One may speak of more numbers than a call has.
+pub spared_within : {A M : Type 0} (vs ws : List ℕ) (t : Told A) (before now : M) → ((w : ℕ) → has w vs ≡ true → has w ws ≡ true) → Spares vs t before now → Spares ws t before now
+spared_within vs ws (refusal w) before now h s = (h w s.0, s.1)
+spared_within vs ws (says x) before now h s = tt

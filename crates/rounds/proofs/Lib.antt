@@ -13,3 +13,4 @@ pub mod RoundCallLaws
 pub mod DealLaws
 pub mod PlanCodeLaws
 pub mod ReplayTurns
+pub mod RefusedLaws

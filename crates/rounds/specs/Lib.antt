@@ -5,5 +5,6 @@ pub mod Histories
 pub mod Demand3
 pub mod CallsMade
 pub mod Replays
+pub mod RefusedBy
 pub mod InnerRounds
 pub mod InnerReplays
