@@ -4,5 +4,6 @@ pub mod Replies
 pub mod Sessions
 pub mod Streams
 pub mod Runs
+pub mod RefusedBy
 pub mod InnerLines
 pub mod InnerSessions

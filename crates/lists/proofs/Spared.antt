@@ -1,13 +1,17 @@
 -- What a call's law on its refusals gives: of a refusal that it said, and of a call that says the same in other words.
 -- Assumes nothing.
-use mathlib.Core.Path.{◌≡◌, sym, ap, subst}
-use mathlib.Core.Bool.{true}
-use mathlib.Core.List.{List}
+use mathlib.Core.Path.{◌≡◌, refl, sym, ap, subst, ◌∙◌}
+use mathlib.Core.Bool.{true, true≢false}
+use mathlib.Core.List.{List, [], ◌∷◌}
 use Prim.Native.Nat.{ℕ}
 use Rattle.lists.specs.Told.{Told, refusal, says, map_told}
-use Rattle.lists.specs.Lists.{has}
+use Rattle.lists.specs.Lists.{every, has}
 use Rattle.lists.specs.Refusing.{Among, Spares}
+use Rattle.lists.proofs.Tests.{by_same}
 use Rattle.lists.proofs.Tolds.{not_said, refusal_same}
+use Rattle.lists.proofs.Keeping.{every_all, all_every}
+use Rattle.lists.proofs.Members.{has_no}
+use Rattle.lists.proofs.Having.{has_tail}
 
 -- what was refused has one of the numbers,
 pub among_number : {A : Type 0} (ws : List ℕ) (t : Told A) (w : ℕ) → Among ws t → t ≡ refusal w → has w ws ≡ true
@@ -35,6 +39,12 @@ spared_under f ws (refusal w) before now s = (s.0, ap f s.1)
 spared_under f ws (says x) before now s = tt
 
 -- One may speak of more numbers than a call has.
-pub spared_within : {A M : Type 0} (vs ws : List ℕ) (t : Told A) (before now : M) → ((w : ℕ) → has w vs ≡ true → has w ws ≡ true) → Spares vs t before now → Spares ws t before now
-spared_within vs ws (refusal w) before now h s = (h w s.0, s.1)
-spared_within vs ws (says x) before now h s = tt
+pub has_within : (vs ws : List ℕ) → every (λ v. has v ws) vs ≡ true → (w : ℕ) → has w vs ≡ true → has w ws ≡ true
+has_within [] ws e w h = absurd (true≢false (sym h ∙ has_no w [] refl))
+has_within (v ∷ vs) ws e w h =
+    let a = all_every (λ x. has x ws) (v ∷ vs) e in
+    by_same w v (λ s. rw s a.0) (λ d. has_within vs ws (every_all (λ x. has x ws) vs a.1) w (sym (has_tail w v vs d) ∙ h))
+
+pub spared_within : {A M : Type 0} (vs ws : List ℕ) (t : Told A) (before now : M) → every (λ v. has v ws) vs ≡ true → Spares vs t before now → Spares ws t before now
+spared_within vs ws (refusal w) before now e s = (has_within vs ws e w s.0, s.1)
+spared_within vs ws (says x) before now e s = tt

@@ -96,14 +96,14 @@ module _ (l t ws ls ts : List ℕ) where
   opened_spares (says r) l' xs places s = tt
 
   replay_spares : (key k n : ℕ) (codes : List ℕ) (places : ℕ) → ReplaySpared (replay_call key k n codes l t ws ls ts places)
-  unfolding replay_call has same
+  unfolding replay_call every has same
   replay_spares key k n codes places =
       by_cond ReplaySpared (every known codes) _ _
       (λ calls. by_cond ReplaySpared (ltb (length ws) (4 * length codes + 4)) _ _
       (λ short. (has_more (Reservoir.short_refusal k n) 12 open_refusals (reservoirs.short_refuses k n), refl))
       (λ long. let o = open_call key k n l in
       opened_spares o.told o.list (map call_of codes) places
-      (spared_within open_refusals replay_refusals o.told l o.list (λ w h. has_more w 12 open_refusals h) (open_refuses key k n l))))
+      (spared_within open_refusals replay_refusals o.told l o.list refl (open_refuses key k n l))))
       (λ none. (refl, refl))
 
 module _ (key k n : ℕ) (codes l t ws ls ts l' t' ws' ls' ts' before now : List ℕ) where
