@@ -13,22 +13,24 @@ use Rattle.lists.specs.Told.{Told, refusal, says, map_told}
 use Rattle.lists.specs.Lists.{same, has, every}
 use Rattle.lists.specs.Refusing.{Among, Spares}
 use Rattle.lists.proofs.Tests.{by_cond}
-use Rattle.lists.proofs.Spared.{spared_within}
+use Rattle.lists.proofs.Spared.{has_within, spared_within}
 use Rattle.answers.specs.declared.Refusal.{Refusal}
 use Rattle.rounds.specs.declared.round.Round.{Round}
 use Rattle.rounds.specs.Rounds.{State, state, After, open_call, admit_call, join_call, withdraw_call}
-use Rattle.rounds.specs.Plans.{AfterPlan, after_plan, plan_call, shown_plan}
+use Rattle.rounds.specs.Plans.{AfterPlan, after_plan, plan_call, Sheet, shown_plan}
 use Rattle.rounds.specs.RefusedBy.{open_refusals, admit_refusals, join_refusals, withdraw_refusals, plan_refusals}
 use Rattle.rounds.proofs.RefusedLaws as rounds
 use Rattle.lines.specs.Lines.{fields, alike}
 use Rattle.lines.specs.Commands.{number_of, key_of, admit_word, join_word, plan_word, withdraw_word, open_word, word_alone, withdraw_form, word_and_one, open_form, word_and_three, by_fields, command_of, parse_call}
 use Rattle.lines.specs.declared.commands.Command.{Command}
+use Rattle.lines.specs.declared.commands.Command.TheVariants as command
 use Rattle.lines.specs.declared.sessions.Session.{Session}
 use Rattle.lines.specs.declared.sessions.Memory.{Memory}
 use Rattle.lines.specs.declared.sessions.Fed.{Fed}
-use Rattle.lines.specs.Sessions.{World}
+use Rattle.lines.specs.Replies.{Reply, joined, withdrawn, planned}
+use Rattle.lines.specs.Sessions.{replied, site, said, replaced, open_line, exchange_reply, admit_line, join_line, withdraw_line, World, world, Response, response, plan_line, on_site, answered, respond}
 use Rattle.lines.specs.Streams.{AfterFeed, after_feed, held_most, room_for, told_feeding, world_of, after_call, feed_call, end_call, BuffersAfter}
-use Rattle.lines.specs.RefusedBy.{parse_refusals, feed_refusals, finish_refusals}
+use Rattle.lines.specs.RefusedBy.{parse_refusals, feed_refusals, finish_refusals, told_reply, line_refusals}
 
 -- ---- parse
 
@@ -104,3 +106,89 @@ module _ (s s' : Session) (m m' : Memory) (line line' out out' : List ℕ) where
       → after_call r s' (world_of s' m') line' out' ≡ end_call (world_of s m) line s.held out → BuffersAfter r line line' m.scratch.now m'.scratch.now
       → Spares {M = Lent} finish_refusals (told_feeding r) (lent s m line out) (lent s' m' line' out')
   finish_refuses r e b = all_spared finish_refusals r _ (finish_spares (world_of s m) line s.held out) (e, b)
+
+-- ---- a line
+
+module _ (l t ls ts : List ℕ) (places : ℕ) where
+  -- with this round, or none
+  abbrev with_round : Option Round → World
+  with_round c = world (site c l t) ls ts places
+
+  abbrev LineSpared : Option Round → Response → Type 0
+  LineSpared c a = Spares line_refusals (told_reply a.reply) (with_round c) a.world
+
+  -- "a refused one changes nothing"
+  replaced_spares : (c : Option Round) (o : Told Round) (l' : List ℕ) → Spares line_refusals o l l' → LineSpared c (on_site (with_round c) (replaced (site c l t) o l'))
+  replaced_spares c (refusal w) l' s = (s.0, refl)
+  replaced_spares c (says r) l' s = tt
+
+  -- a call on the round, whose answers are no refusals
+  module _ {A : Type 0} (f : A → Reply) (says_so : (x : A) → told_reply (f x) ≡ says (f x)) where
+    said_spares : (r : Round) (o : Told A) (s' : State) → Spares line_refusals o (state r l t) s'
+        → LineSpared (Some r) (on_site (with_round (Some r)) (said (replied f o) (site (Some s'.round) s'.list s'.table)))
+    said_spares r (refusal w) s' s = (s.0, (λ i. world (site (Some (s.1 i).round) (s.1 i).list (s.1 i).table) ls ts places))
+    said_spares r (says x) s' s = subst (λ (o : Told Reply). Spares line_refusals o (with_round (Some r)) (with_lists s')) (sym (says_so x)) tt
+      where
+        with_lists : State → World
+        with_lists s = world (site (Some s.round) s.list s.table) ls ts places
+
+  open_line_spares : (c : Option Round) (key k n : ℕ) → LineSpared c (on_site (with_round c) (open_line key k n (site c l t)))
+  unfolding open_line every has same
+  open_line_spares c key k n =
+      let o = open_call key k n l in
+      replaced_spares c o.told o.list (spared_within open_refusals line_refusals o.told l o.list refl (rounds.open_refuses key k n l))
+
+  exchange_says : (x : maybe.Option (ℕ × ℕ)) → told_reply (exchange_reply x) ≡ says (exchange_reply x)
+  exchange_says maybe.none = refl
+  exchange_says (maybe.some p) = refl
+
+  admit_line_spares : (c : Option Round) → LineSpared c (on_site (with_round c) (admit_line (site c l t)))
+  unfolding admit_line every has same
+  admit_line_spares None = (refl, refl)
+  admit_line_spares (Some r) =
+      let s = state r l t in
+      let a = admit_call s in
+      said_spares exchange_reply exchange_says r a.told a.state (spared_within admit_refusals line_refusals a.told s a.state refl (rounds.admit_refuses s))
+
+  join_line_spares : (c : Option Round) → LineSpared c (on_site (with_round c) (join_line (site c l t)))
+  unfolding join_line every has same
+  join_line_spares None = (refl, refl)
+  join_line_spares (Some r) =
+      let s = state r l t in
+      let a = join_call s in
+      said_spares joined (λ x. refl) r a.told a.state (spared_within join_refusals line_refusals a.told s a.state refl (rounds.join_refuses s))
+
+  withdraw_line_spares : (x : ℕ) (c : Option Round) → LineSpared c (on_site (with_round c) (withdraw_line x (site c l t)))
+  unfolding withdraw_line every has same
+  withdraw_line_spares x None = (refl, refl)
+  withdraw_line_spares x (Some r) =
+      let s = state r l t in
+      let a = withdraw_call s x in
+      said_spares (λ u. withdrawn x) (λ u. refl) r a.told a.state (spared_within withdraw_refusals line_refusals a.told s a.state refl (rounds.withdraw_refuses s x))
+
+  planned_spares : (c : Option Round) (f : Unit {0} → List Sheet) (o : Told (Unit {0})) (p : AfterPlan) → Spares line_refusals o (after_plan o ls ts) p
+      → LineSpared c (response (replied planned (map_told f o)) (world (site c l t) p.locations p.terminals places))
+  planned_spares c f (refusal w) p s = (s.0, (λ i. world (site c l t) (s.1 i).locations (s.1 i).terminals places))
+  planned_spares c f (says u) p s = tt
+
+  plan_line_spares : (c : Option Round) → LineSpared c (plan_line (with_round c))
+  unfolding plan_line shown_plan every has same
+  plan_line_spares None = (refl, refl)
+  plan_line_spares (Some r) =
+      let s = state r l t in
+      let p = plan_call s ls ts places in
+      planned_spares (Some r) _ p.told p (spared_within plan_refusals line_refusals p.told (after_plan p.told ls ts) p refl (rounds.plan_spares s ls ts places))
+
+  answered_spares : (c : Option Round) (o : Told Command) → Among parse_refusals o → LineSpared c (answered (with_round c) o)
+  unfolding answered every has same
+  answered_spares c (refusal w) a = (has_within parse_refusals line_refusals refl w a, refl)
+  answered_spares c (says (command.Open key k n)) a = open_line_spares c key k n
+  answered_spares c (says command.Admit) a = admit_line_spares c
+  answered_spares c (says command.Join) a = join_line_spares c
+  answered_spares c (says (command.Withdraw x)) a = withdraw_line_spares x c
+  answered_spares c (says command.Plan) a = plan_line_spares c
+
+-- "refused .." to a line leaves all that the program has as it was
+pub line_refuses : (w : World) (line : List ℕ) → let a = respond w line in Spares line_refusals (told_reply a.reply) w a.world
+unfolding respond parse_call
+line_refuses w line = answered_spares w.site.list w.site.table w.locations w.terminals w.places w.site.current (command_of line) (parse_refuses line)

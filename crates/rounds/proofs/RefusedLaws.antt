@@ -64,7 +64,8 @@ module _ (s : State) where
 
 -- ---- plan
 
-plan_spares : (s : State) (ls ts : List ℕ) (places : ℕ) → let a = plan_call s ls ts places in Spares plan_refusals a.told (after_plan a.told ls ts) a
+-- the two lists
+pub plan_spares : (s : State) (ls ts : List ℕ) (places : ℕ) → let a = plan_call s ls ts places in Spares plan_refusals a.told (after_plan a.told ls ts) a
 unfolding plan_call has same
 plan_spares s ls ts places =
     by_cond PlanSpared (fitting s) _ _
@@ -76,6 +77,7 @@ plan_spares s ls ts places =
     PlanSpared : AfterPlan → Type 0
     PlanSpared a = Spares plan_refusals a.told (after_plan a.told ls ts) a
 
+-- and the scratch
 module _ (s : State) (ls ts ls' ts' before now : List ℕ) where
   pub plan_refuses : (o : Result (Unit {0}) Refusal) → after_plan (told o) ls' ts' ≡ plan_call s ls ts (length before) → ScratchAfter o before now
       → Spares {M = AfterPlan × List ℕ} plan_refusals (told o) (after_plan (told o) ls ts, before) (after_plan (told o) ls' ts', now)
