@@ -110,9 +110,9 @@ module _ (m : ConsistentNodeMap) (t : List ℕ) where
   pub is_active_refuses : (x : ℕ) → Among query_refusals (is_active_call m t x)
   is_active_refuses x = queried_refuses _
 
-  among_get : (s places : ℕ) → Among get_refusals (get_call m t s places)
+  pub get_among : (s places : ℕ) → Among get_refusals (get_call m t s places)
   unfolding get_call has same
-  among_get s places =
+  get_among s places =
       by_cond (Among get_refusals) (Slots.fitting m t) _ _
       (λ fits. by_cond (Among get_refusals) (ltb places (min (length t) slot_limit)) _ _ (λ short. refl) (λ long. found (holder s t m.total)))
       (λ unfit. refl)
@@ -125,4 +125,4 @@ module _ (m : ConsistentNodeMap) (t : List ℕ) where
   pub get_refuses : (s : ℕ) (r : Result ℕ Refusal) (before now : List ℕ) → told r ≡ get_call m t s (length before) → ScratchAfter r before now
       → Spares get_refusals (told r) before now
   get_refuses s (Ok x) before now e k = tt
-  get_refuses s (Err why) before now e k = (subst (Among get_refusals) (sym e) (among_get s (length before)), k)
+  get_refuses s (Err why) before now e k = (subst (Among get_refusals) (sym e) (get_among s (length before)), k)

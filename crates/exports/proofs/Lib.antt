@@ -7,3 +7,4 @@ pub mod RunLaws
 pub mod ChooserCrossLaws
 pub mod SlotCrossLaws
 pub mod RoundCrossLaws
+pub mod RefusedLaws

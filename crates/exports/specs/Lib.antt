@@ -8,3 +8,4 @@ pub mod InnerRuns
 pub mod Chooser
 pub mod Slots
 pub mod Rounds
+pub mod RefusedBy

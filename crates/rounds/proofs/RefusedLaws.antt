@@ -89,7 +89,7 @@ module _ (s : State) (ls ts ls' ts' before now : List ℕ) where
 -- ---- replay
 
 module _ (l t ws ls ts : List ℕ) where
-  abbrev ReplaySpared : AfterReplay → Type 0
+  abbrev pub ReplaySpared : AfterReplay → Type 0
   ReplaySpared a = Spares replay_refusals a.told (after_replay a.told l t ws ls ts) a
 
   opened_spares : (o : Told Round) (l' : List ℕ) (xs : List Call) (places : ℕ) → Spares replay_refusals o l l' → ReplaySpared (opened_run o l' t xs ws ls ts places)
@@ -97,7 +97,7 @@ module _ (l t ws ls ts : List ℕ) where
   opened_spares (refusal w) l' xs places s = (s.0, (λ i. after_replay (refusal w) (s.1 i) t ws ls ts))
   opened_spares (says r) l' xs places s = tt
 
-  replay_spares : (key k n : ℕ) (codes : List ℕ) (places : ℕ) → ReplaySpared (replay_call key k n codes l t ws ls ts places)
+  pub replay_spares : (key k n : ℕ) (codes : List ℕ) (places : ℕ) → ReplaySpared (replay_call key k n codes l t ws ls ts places)
   unfolding replay_call every has same
   replay_spares key k n codes places =
       by_cond ReplaySpared (every known codes) _ _
