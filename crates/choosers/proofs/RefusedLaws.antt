@@ -2,14 +2,13 @@
 -- it was.
 -- Assumes nothing.
 use mathlib.Core.Path.{◌≡◌, refl, sym, subst}
-use mathlib.Core.Bool.{Bool, true, ◌||◌}
+use mathlib.Core.Bool.{true, ◌||◌}
 use mathlib.Core.List.{List}
 use mathlib.Core.Option as maybe
 use Prim.Native.Nat.{ℕ, ◌+◌, ◌^◌, min}
 use lib.Dec.{ltb, leb, eqb}
 use lib.ListN.{length}
 use Rattle.std.specs.Prelude.{Result, Ok, Err}
-use Rattle.lists.specs.Told.{Told}
 use Rattle.lists.specs.Lists.{same, has}
 use Rattle.lists.specs.Refusing.{Among, Spares}
 use Rattle.lists.proofs.Tests.{by_cond}

@@ -16,7 +16,6 @@ use Rattle.lists.specs.Refusing.{Among, Spares}
 use Rattle.lists.proofs.Tests.{by_cond}
 use Rattle.lists.proofs.Having.{has_head, has_more}
 use Rattle.lists.proofs.Spared.{has_within, spared_under}
-use Rattle.layers.specs.Layer.{layer}
 use Rattle.hashes.specs.Calls.{limited}
 use Rattle.hashes.specs.Next.{low}
 use Rattle.orders.specs.declared.consistent_permutation.ConsistentPermutation.{ConsistentPermutation}
@@ -127,7 +126,8 @@ module _ (ws : List ℕ) where
       (refl, (short_among (2 ^ 30) n order_new_refusals refl refl, refl))
       (started (OrderCalls.new_call n key) (orders.order_refuses n key))
 
-  stepped : (t : Told (Option ℕ)) (w : ConsistentPermutation) → Spares order_next_refusals t (Order.order_as ws) w → OneSpared coded_hash order_next_refusals t (Order.stepped_as ws t w)
+  stepped : (t : Told (Option ℕ)) (w : ConsistentPermutation) → Spares order_next_refusals t (Order.order_as ws) w
+      → OneSpared coded_hash order_next_refusals t (Order.stepped_as ws t w)
   stepped (refusal c) w s = (refl, (s.0, refl))
   stepped (says o) w s = (refl, tt)
 
@@ -149,7 +149,8 @@ module _ (ws l : List ℕ) where
 
   -- a call on the record in the words
   on_record : {A : Type 0} (code : Told A → ℕ) (vs : List ℕ) (count : ℕ) (t : Told A) (rs l' : List ℕ) → code (refusal 4) ≡ 2 ^ 63 + 4 → Spares vs t l l'
-      → WordsSpared code (4 ∷ vs) (said_by count ws t) (cond (ltb (length ws) count) (crossed (2 ^ 63 + 4) ws l) (crossed (code t) (words_after ws t rs) l'))
+      → WordsSpared code (4 ∷ vs) (said_by count ws t)
+      (cond (ltb (length ws) count) (crossed (2 ^ 63 + 4) ws l) (crossed (code t) (words_after ws t rs) l'))
   on_record code vs count t rs l' is s =
       by_words (WordsSpared code (4 ∷ vs)) (ltb (length ws) count)
       (sym is, (four vs, refl))
@@ -183,7 +184,8 @@ module _ (ws l : List ℕ) where
   reservoir_grow_layer_refuses =
       let r = Reservoir.record_of ws in
       let a = ReservoirCalls.grow_layer_call r l in
-      on_record coded_done _ 6 a.told _ a.list refl (spared_under (λ b. b.list) _ a.told (ReservoirCalls.after a.told r l) a (orders.grow_layer_refuses r l))
+      on_record coded_done _ 6 a.told _ a.list refl
+      (spared_under (λ b. b.list) _ a.told (ReservoirCalls.after a.told r l) a (orders.grow_layer_refuses r l))
 
   pub reservoir_sample_refuses : (out : List ℕ) → let t = said_by 6 ws (ReservoirCalls.sample_call (Reservoir.record_of ws) l out).told in
       let a = Reservoir.sample_crossed ws l out in Crosses coded_done reservoir_sample_refusals t a.answer (crossed_one a.answer out) a
@@ -254,7 +256,8 @@ fits_crosses : (ws : List ℕ) (count : ℕ) (b : Bool) → let a = cond (ltb (l
     Crosses {M = Unit {0}} Slots.coded_truth words_refusals (said_by count ws (says b)) a tt tt
 unfolding has same
 fits_crosses ws count b =
-    by_words (λ (t : Told Bool) (a : ℕ). Crosses {M = Unit {0}} Slots.coded_truth words_refusals t a tt tt) (ltb (length ws) count) (refl, (refl, refl)) (refl, tt)
+    by_words (λ (t : Told Bool) (a : ℕ). Crosses {M = Unit {0}} Slots.coded_truth words_refusals t a tt tt) (ltb (length ws) count)
+    (refl, (refl, refl)) (refl, tt)
 
 pub reservoir_fits_refuses : (ws l : List ℕ) → let t = said_by 6 ws (says (ReservoirCalls.fitting (Reservoir.record_of ws) l)) in
     Crosses {M = Unit {0}} Slots.coded_truth words_refusals t (Reservoir.fits_crossed ws l) tt tt
@@ -279,18 +282,25 @@ module _ (c : ℕ) (t : List ℕ) where
   unfolding Slots.add_crossed
   slots_add_refuses =
       let m = SlotCalls.map_of c in
-      let b = SlotCalls.add_call m t in
-      (refl, spared_under (λ x. crossed_one (Slots.coded_added b.told b.map) x.table) lists.add_refusals b.told (SlotCalls.after b.told m t) b (choosers.add_refuses m t))
+      let b = SlotCalls.add_call m t in (
+        refl,
+        spared_under (λ x. crossed_one (Slots.coded_added b.told b.map) x.table)
+            lists.add_refusals b.told (SlotCalls.after b.told m t) b (choosers.add_refuses m t),
+      )
 
   pub slots_remove_refuses : (x : ℕ) → let b = SlotCalls.remove_call (SlotCalls.map_of c) t x in
       let a = Slots.remove_crossed c t x in Crosses (λ w. Slots.coded_removed w b.map) lists.remove_refusals b.told a.answer (crossed_one a.answer t) a
   unfolding Slots.remove_crossed
   slots_remove_refuses x =
       let m = SlotCalls.map_of c in
-      let b = SlotCalls.remove_call m t x in
-      (refl, spared_under (λ y. crossed_one (Slots.coded_removed b.told b.map) y.table) lists.remove_refusals b.told (SlotCalls.after b.told m t) b (choosers.remove_refuses m t x))
+      let b = SlotCalls.remove_call m t x in (
+        refl,
+        spared_under (λ y. crossed_one (Slots.coded_removed b.told b.map) y.table)
+            lists.remove_refusals b.told (SlotCalls.after b.told m t) b (choosers.remove_refuses m t x),
+      )
 
-  scratch_spared : (o : Told ℕ) (a : ℕ) (before now : List ℕ) → a ≡ coded_number o → Slots.ScratchAfter a before now → Among lists.get_refusals o → Spares lists.get_refusals o before now
+  scratch_spared : (o : Told ℕ) (a : ℕ) (before now : List ℕ) → a ≡ coded_number o → Slots.ScratchAfter a before now
+      → Among lists.get_refusals o → Spares lists.get_refusals o before now
   scratch_spared (refusal v) a before now e k h = (h, k (omega arith))
   scratch_spared (says x) a before now e k h = tt
 
@@ -302,7 +312,8 @@ module _ (c : ℕ) (t : List ℕ) where
 -- ---- rounds
 
 module _ (ws l : List ℕ) where
-  round_opened : (t : Told Round) (l' : List ℕ) → Spares called.open_refusals t l l' → WordsSpared ws l coded_done called.open_refusals t (crossed (coded_done t) (Round.words_opened ws t) l')
+  round_opened : (t : Told Round) (l' : List ℕ) → Spares called.open_refusals t l l'
+      → WordsSpared ws l coded_done called.open_refusals t (crossed (coded_done t) (Round.words_opened ws t) l')
   round_opened (refusal c) l' s = (refl, (s.0, (λ i. crossed (2 ^ 63 + c) ws (s.1 i))))
   round_opened (says r) l' s = (refl, tt)
 
@@ -326,7 +337,8 @@ module _ (ws l t : List ℕ) where
   round_spared code vs (says x) rs s' h = tt
 
   -- a call on the record in the words
-  on_round : {A : Type 0} (code : Told A → ℕ) (vs : List ℕ) (o : Told A) (rs : List ℕ) (s' : State) → code (refusal 4) ≡ 2 ^ 63 + 4 → Spares vs o (state (Round.round_as ws) l t) s'
+  on_round : {A : Type 0} (code : Told A → ℕ) (vs : List ℕ) (o : Told A) (rs : List ℕ) (s' : State) → code (refusal 4) ≡ 2 ^ 63 + 4
+      → Spares vs o (state (Round.round_as ws) l t) s'
       → RoundSpared code (4 ∷ vs) (said_by 7 ws o)
       (cond (ltb (length ws) 7) (Round.crossed_round (2 ^ 63 + 4) ws l t) (Round.crossed_round (code o) (words_after ws o rs) s'.list s'.table))
   on_round code vs o rs s' is h =
@@ -354,7 +366,8 @@ module _ (ws l t : List ℕ) where
       let a = withdraw_call s x in on_round coded_done _ a.told _ a.state refl (rounds.withdraw_refuses s x)
 
 -- what is refused leaves the scratch too
-with_scratch : {A M : Type 0} (vs : List ℕ) (o : Told A) (a : ℕ) (m m' : M) (before now : List ℕ) → (2 ^ 63 ≤ a → now ≡ before) → Crosses coded_done vs o a m m'
+with_scratch : {A M : Type 0} (vs : List ℕ) (o : Told A) (a : ℕ) (m m' : M) (before now : List ℕ)
+    → (2 ^ 63 ≤ a → now ≡ before) → Crosses coded_done vs o a m m'
     → Crosses {M = M × List ℕ} coded_done vs o a (m, before) (m', now)
 with_scratch vs (refusal w) a m m' before now k c = (c.0, (c.1.0, (λ i. (c.1.1 i, k (omega (arith, c.0)) i))))
 with_scratch vs (says x) a m m' before now k c = (c.0, tt)
@@ -368,19 +381,23 @@ module _ (ws l t ls ts ls' ts' before now : List ℕ) where
   round_plan_refuses a e k =
       let s = state (Round.round_as ws) l t in
       let p = plan_call s ls ts (length before) in
-      let enough = first_four _ p.told _ _ (spared_under (shown p.told) _ p.told (after_plan p.told ls ts) p (rounds.plan_spares s ls ts (length before))) in
+      let enough = first_four _ p.told _ _
+      (spared_under (shown p.told) _ p.told (after_plan p.told ls ts) p (rounds.plan_spares s ls ts (length before))) in
       let c = by_words PlanSpared (ltb (length ws) 7) (refl, (four _, refl)) (refl, enough) in
       with_scratch _ _ a _ _ before now k (subst (PlanSpared (said_by 7 ws p.told)) (sym e) c)
     where
       PlanSpared : Told (Unit {0}) → Round.CrossedPlan → Type 0
       PlanSpared o x = Crosses coded_done round_plan_refusals o x.answer (Round.crossed_plan x.answer ls ts) x
+
       shown : Told (Unit {0}) → AfterPlan → Round.CrossedPlan
       shown o q = Round.crossed_plan (coded_done o) q.locations q.terminals
 
 module _ (key k n : ℕ) (codes l t ws ls ts l' t' ws' ls' ts' before now : List ℕ) where
   pub round_replay_refuses : (a : ℕ) → let o = (replay_call key k n codes l t ws ls ts (length before)).told in
-      Round.crossed_replay a l' t' ws' ls' ts' ≡ Round.replay_crossed key k n codes l t ws ls ts (length before) → Round.ReplayScratchAs a (length codes) ws' before now
-      → Crosses {M = Round.CrossedReplay × List ℕ} coded_done called.replay_refusals o a (Round.crossed_replay a l t ws ls ts, before) (Round.crossed_replay a l' t' ws' ls' ts', now)
+      Round.crossed_replay a l' t' ws' ls' ts' ≡ Round.replay_crossed key k n codes l t ws ls ts (length before)
+      → Round.ReplayScratchAs a (length codes) ws' before now
+      → Crosses {M = Round.CrossedReplay × List ℕ} coded_done called.replay_refusals o a
+      (Round.crossed_replay a l t ws ls ts, before) (Round.crossed_replay a l' t' ws' ls' ts', now)
   unfolding Round.replay_crossed
   round_replay_refuses a e s =
       let o = replay_call key k n codes l t ws ls ts (length before) in
@@ -389,5 +406,6 @@ module _ (key k n : ℕ) (codes l t ws ls ts l' t' ws' ls' ts' before now : List
     where
       ReplaySpared : Told (Unit {0}) → Round.CrossedReplay → Type 0
       ReplaySpared o x = Crosses coded_done called.replay_refusals o x.answer (Round.crossed_replay x.answer l t ws ls ts) x
+
       shown : Told (Unit {0}) → AfterReplay → Round.CrossedReplay
       shown o x = Round.crossed_replay (coded_done o) x.list x.table x.answers x.locations x.terminals

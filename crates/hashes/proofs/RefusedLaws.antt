@@ -6,14 +6,13 @@ use mathlib.Core.List.{List}
 use mathlib.Core.Option.{Option, none, some}
 use Prim.Native.Nat.{ℕ, ◌^◌}
 use lib.Dec.{ltb}
-use Rattle.lists.specs.Told.{Told}
 use Rattle.lists.specs.Lists.{same, has}
 use Rattle.lists.specs.Steps.{Step}
 use Rattle.lists.specs.Refusing.{Among, Spares}
 use Rattle.lists.proofs.Tests.{by_cond}
 use Rattle.hashes.specs.declared.ConsistentHashRevIterator.{ConsistentHashRevIterator}
 use Rattle.hashes.specs.Hashes.{prev}
-use Rattle.hashes.specs.Next.{next, low}
+use Rattle.hashes.specs.Next.{next}
 use Rattle.hashes.specs.Calls.{limited, prev_call, next_call}
 use Rattle.hashes.specs.Walks.{falling_from, rising_from, go_on_below, fall}
 use Rattle.hashes.specs.RefusedBy.{prev_refusals, next_refusals, walk_refusals, fall_refusals}
@@ -45,6 +44,7 @@ fall_refuses w = by_cond Spared (ltb (2 ^ 62) w.n) _ _ (λ above. (refl, refl)) 
   where
     Spared : Step ConsistentHashRevIterator → Type 0
     Spared s = Spares fall_refusals s.said w s.walk
+
     goes : (o : Option ℕ) → Spared (go_on_below w o)
     goes none = tt
     goes (some x) = tt

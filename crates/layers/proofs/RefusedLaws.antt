@@ -3,7 +3,6 @@
 use mathlib.Core.Path.{refl}
 use Prim.Native.Nat.{ℕ}
 use lib.Dec.{leb, ltb}
-use Rattle.lists.specs.Told.{Told}
 use Rattle.lists.specs.Lists.{same, has}
 use Rattle.lists.specs.Refusing.{Among}
 use Rattle.lists.proofs.Tests.{by_cond}

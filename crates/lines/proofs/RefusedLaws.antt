@@ -2,10 +2,10 @@
 -- they were. `feed` and `finish` are taken by their promises.
 -- Assumes nothing.
 use mathlib.Core.Path.{◌≡◌, refl, sym, subst}
-use mathlib.Core.Bool.{true, ◌||◌}
+use mathlib.Core.Bool.{◌||◌}
 use mathlib.Core.List.{List, [], ◌∷◌}
 use mathlib.Core.Option as maybe
-use Prim.Native.Nat.{ℕ, ◌+◌}
+use Prim.Native.Nat.{ℕ}
 use lib.Dec.{ltb, leb, eqb}
 use lib.ListN.{length, take}
 use Rattle.std.specs.Prelude.{Result, Ok, Err, Option, Some, None}
@@ -16,7 +16,7 @@ use Rattle.lists.proofs.Tests.{by_cond}
 use Rattle.lists.proofs.Spared.{has_within, spared_within}
 use Rattle.answers.specs.declared.Refusal.{Refusal}
 use Rattle.rounds.specs.declared.round.Round.{Round}
-use Rattle.rounds.specs.Rounds.{State, state, After, open_call, admit_call, join_call, withdraw_call}
+use Rattle.rounds.specs.Rounds.{State, state, open_call, admit_call, join_call, withdraw_call}
 use Rattle.rounds.specs.Plans.{AfterPlan, after_plan, plan_call, Sheet, shown_plan}
 use Rattle.rounds.specs.RefusedBy.{open_refusals, admit_refusals, join_refusals, withdraw_refusals, plan_refusals}
 use Rattle.rounds.proofs.RefusedLaws as rounds
@@ -51,7 +51,8 @@ unfolding word_alone word_and_one word_and_three has same
 fields_among [] = refl
 fields_among (w ∷ []) =
     by_cond (Among parse_refusals) (alike w admit_word) _ _ (λ y. tt)
-    (λ n. by_cond (Among parse_refusals) (alike w join_word) _ _ (λ y. tt) (λ n. by_cond (Among parse_refusals) (alike w plan_word) _ _ (λ y. tt) (λ n. refl)))
+    (λ n. by_cond (Among parse_refusals) (alike w join_word) _ _ (λ y. tt)
+    (λ n. by_cond (Among parse_refusals) (alike w plan_word) _ _ (λ y. tt) (λ n. refl)))
 fields_among (w ∷ a ∷ []) = by_cond (Among parse_refusals) (alike w withdraw_word) _ _ (λ y. withdraw_among (number_of a)) (λ n. refl)
 fields_among (w ∷ a ∷ b ∷ []) = refl
 fields_among (w ∷ a ∷ b ∷ c ∷ []) =
@@ -73,7 +74,8 @@ module _ (w : World) (line : List ℕ) (m : ℕ) (out : List ℕ) where
   unfolding feed_call has same
   feed_spares piece =
       by_cond (Spared feed_refusals) (ltb held_most m || ltb (length line) m) _ _ (λ unfit. (refl, refl))
-      (λ fits. by_cond (Spared feed_refusals) (ltb (length line) held_most || ltb (length out) (room_for w.locations)) _ _ (λ short. (refl, refl)) (λ long. tt))
+      (λ fits. by_cond (Spared feed_refusals) (ltb (length line) held_most || ltb (length out) (room_for w.locations))
+      _ _ (λ short. (refl, refl)) (λ long. tt))
 
   finish_spares : Spared finish_refusals (end_call w line m out)
   unfolding end_call
@@ -98,7 +100,8 @@ module _ (s s' : Session) (m m' : Memory) (line line' out out' : List ℕ) where
       (p.0, (λ i. (record { current = (p.1 i).world.site.current; held = (p.1 i).size }, ((p.1 i).world, (e.1.0 i, ((p.1 i).out, e.1.1 i))))))
 
   pub feed_refuses : (piece : List ℕ) (r : Result Fed Refusal)
-      → after_call r s' (world_of s' m') line' out' ≡ feed_call (world_of s m) line s.held piece out → BuffersAfter r line line' m.scratch.now m'.scratch.now
+      → after_call r s' (world_of s' m') line' out' ≡ feed_call (world_of s m) line s.held piece out
+      → BuffersAfter r line line' m.scratch.now m'.scratch.now
       → Spares {M = Lent} feed_refusals (told_feeding r) (lent s m line out) (lent s' m' line' out')
   feed_refuses piece r e b = all_spared feed_refusals r _ (feed_spares (world_of s m) line s.held out piece) (e, b)
 
@@ -118,7 +121,8 @@ module _ (l t ls ts : List ℕ) (places : ℕ) where
   LineSpared c a = Spares line_refusals (told_reply a.reply) (with_round c) a.world
 
   -- "a refused one changes nothing"
-  replaced_spares : (c : Option Round) (o : Told Round) (l' : List ℕ) → Spares line_refusals o l l' → LineSpared c (on_site (with_round c) (replaced (site c l t) o l'))
+  replaced_spares : (c : Option Round) (o : Told Round) (l' : List ℕ) → Spares line_refusals o l l'
+      → LineSpared c (on_site (with_round c) (replaced (site c l t) o l'))
   replaced_spares c (refusal w) l' s = (s.0, refl)
   replaced_spares c (says r) l' s = tt
 
@@ -164,7 +168,8 @@ module _ (l t ls ts : List ℕ) (places : ℕ) where
   withdraw_line_spares x (Some r) =
       let s = state r l t in
       let a = withdraw_call s x in
-      said_spares (λ u. withdrawn x) (λ u. refl) r a.told a.state (spared_within withdraw_refusals line_refusals a.told s a.state refl (rounds.withdraw_refuses s x))
+      said_spares (λ u. withdrawn x) (λ u. refl) r a.told a.state
+      (spared_within withdraw_refusals line_refusals a.told s a.state refl (rounds.withdraw_refuses s x))
 
   planned_spares : (c : Option Round) (f : Unit {0} → List Sheet) (o : Told (Unit {0})) (p : AfterPlan) → Spares line_refusals o (after_plan o ls ts) p
       → LineSpared c (response (replied planned (map_told f o)) (world (site c l t) p.locations p.terminals places))
@@ -177,7 +182,8 @@ module _ (l t ls ts : List ℕ) (places : ℕ) where
   plan_line_spares (Some r) =
       let s = state r l t in
       let p = plan_call s ls ts places in
-      planned_spares (Some r) _ p.told p (spared_within plan_refusals line_refusals p.told (after_plan p.told ls ts) p refl (rounds.plan_spares s ls ts places))
+      planned_spares (Some r) _ p.told p
+      (spared_within plan_refusals line_refusals p.told (after_plan p.told ls ts) p refl (rounds.plan_spares s ls ts places))
 
   answered_spares : (c : Option Round) (o : Told Command) → Among parse_refusals o → LineSpared c (answered (with_round c) o)
   unfolding answered every has same

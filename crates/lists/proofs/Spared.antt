@@ -45,6 +45,7 @@ has_within (v ∷ vs) ws e w h =
     let a = all_every (λ x. has x ws) (v ∷ vs) e in
     by_same w v (λ s. rw s a.0) (λ d. has_within vs ws (every_all (λ x. has x ws) vs a.1) w (sym (has_tail w v vs d) ∙ h))
 
-pub spared_within : {A M : Type 0} (vs ws : List ℕ) (t : Told A) (before now : M) → every (λ v. has v ws) vs ≡ true → Spares vs t before now → Spares ws t before now
+pub spared_within : {A M : Type 0} (vs ws : List ℕ) (t : Told A) (before now : M) → every (λ v. has v ws) vs ≡ true
+    → Spares vs t before now → Spares ws t before now
 spared_within vs ws (refusal w) before now e s = (has_within vs ws e w s.0, s.1)
 spared_within vs ws (says x) before now e s = tt

@@ -8,7 +8,6 @@ use mathlib.Core.Option.{Option, none, some}
 use Prim.Native.Nat.{ℕ, zero, suc, ◌-◌, ◌^◌}
 use lib.Dec.{ltb, eqb}
 use lib.ListN.{length}
-use Rattle.lists.specs.Told.{Told}
 use Rattle.lists.specs.Steps.{Step}
 use Rattle.lists.specs.Lists.{below, same, has}
 use Rattle.lists.specs.Refusing.{Among, Spares}

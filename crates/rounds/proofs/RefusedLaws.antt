@@ -2,7 +2,7 @@
 -- lent a scratch are taken by their promise, whose second clause speaks of it.
 -- Assumes nothing.
 use mathlib.Core.Path.{◌≡◌, refl, sym, subst}
-use mathlib.Core.Bool.{true, ◌||◌}
+use mathlib.Core.Bool.{◌||◌}
 use mathlib.Core.List.{List, map}
 use Prim.Native.Nat.{ℕ, ◌+◌, ◌*◌, min}
 use lib.Dec.{ltb, eqb}
@@ -10,7 +10,7 @@ use lib.ListN.{length}
 use Rattle.std.specs.Prelude.{Result, Ok, Err}
 use Rattle.lists.specs.Told.{Told, refusal, says}
 use Rattle.lists.specs.Lists.{same, has, every}
-use Rattle.lists.specs.Refusing.{Among, Spares}
+use Rattle.lists.specs.Refusing.{Spares}
 use Rattle.lists.proofs.Tests.{by_cond}
 use Rattle.lists.proofs.Having.{has_more}
 use Rattle.lists.proofs.Spared.{spared_mapped, spared_under, spared_within}
@@ -22,7 +22,7 @@ use Rattle.choosers.specs.Slots.{actives}
 use Rattle.choosers.specs.SlotCalls as Slots
 use Rattle.choosers.proofs.RefusedLaws as slots
 use Rattle.rounds.specs.declared.round.Round.{Round}
-use Rattle.rounds.specs.Rounds.{State, state, After, reservoir_of, map_of, by_reservoir, by_slots, fitting, open_call, admit_call, join_call, withdraw_call}
+use Rattle.rounds.specs.Rounds.{State, After, reservoir_of, map_of, by_reservoir, by_slots, fitting, open_call, admit_call, join_call, withdraw_call}
 use Rattle.rounds.specs.Plans.{AfterPlan, after_plan, plan_call, ScratchAfter}
 use Rattle.rounds.specs.Ledgers.{Call}
 use Rattle.rounds.specs.Replays.{known, call_of, AfterReplay, after_replay, run_of, opened_run, replay_call, ReplayScratch}
@@ -43,7 +43,8 @@ module _ (s : State) where
   admit_refuses =
       by_cond (Spared admit_refusals) (fitting s) _ _
       (λ fits. let a = Reservoir.admit_call (reservoir_of s.round) s.list in
-      spared_under (λ b. (by_reservoir s b).state) admit_refusals a.told (Reservoir.after a.told (reservoir_of s.round) s.list) a (reservoirs.admit_refuses (reservoir_of s.round) s.list))
+      spared_under (λ b. (by_reservoir s b).state) admit_refusals a.told (Reservoir.after a.told (reservoir_of s.round) s.list) a
+      (reservoirs.admit_refuses (reservoir_of s.round) s.list))
       (λ unfit. (refl, refl))
 
   pub join_refuses : let a = join_call s in Spares join_refusals a.told s a.state
@@ -51,7 +52,8 @@ module _ (s : State) where
   join_refuses =
       by_cond (Spared join_refusals) (fitting s) _ _
       (λ fits. let a = Slots.add_call (map_of s.round) s.table in
-      spared_under (λ b. (by_slots s b).state) join_refusals a.told (Slots.after a.told (map_of s.round) s.table) a (slots.add_refuses (map_of s.round) s.table))
+      spared_under (λ b. (by_slots s b).state) join_refusals a.told (Slots.after a.told (map_of s.round) s.table) a
+      (slots.add_refuses (map_of s.round) s.table))
       (λ unfit. (refl, refl))
 
   pub withdraw_refuses : (x : ℕ) → let a = withdraw_call s x in Spares withdraw_refusals a.told s a.state
@@ -59,7 +61,8 @@ module _ (s : State) where
   withdraw_refuses x =
       by_cond (Spared withdraw_refusals) (fitting s) _ _
       (λ fits. let a = Slots.remove_call (map_of s.round) s.table x in
-      spared_under (λ b. (by_slots s b).state) withdraw_refusals a.told (Slots.after a.told (map_of s.round) s.table) a (slots.remove_refuses (map_of s.round) s.table x))
+      spared_under (λ b. (by_slots s b).state) withdraw_refusals a.told (Slots.after a.told (map_of s.round) s.table) a
+      (slots.remove_refuses (map_of s.round) s.table x))
       (λ unfit. (refl, refl))
 
 -- ---- plan
@@ -92,7 +95,8 @@ module _ (l t ws ls ts : List ℕ) where
   abbrev pub ReplaySpared : AfterReplay → Type 0
   ReplaySpared a = Spares replay_refusals a.told (after_replay a.told l t ws ls ts) a
 
-  opened_spares : (o : Told Round) (l' : List ℕ) (xs : List Call) (places : ℕ) → Spares replay_refusals o l l' → ReplaySpared (opened_run o l' t xs ws ls ts places)
+  opened_spares : (o : Told Round) (l' : List ℕ) (xs : List Call) (places : ℕ) → Spares replay_refusals o l l'
+      → ReplaySpared (opened_run o l' t xs ws ls ts places)
   unfolding run_of
   opened_spares (refusal w) l' xs places s = (s.0, (λ i. after_replay (refusal w) (s.1 i) t ws ls ts))
   opened_spares (says r) l' xs places s = tt
@@ -111,7 +115,8 @@ module _ (l t ws ls ts : List ℕ) where
 module _ (key k n : ℕ) (codes l t ws ls ts l' t' ws' ls' ts' before now : List ℕ) where
   pub replay_refuses : (o : Result (Unit {0}) Refusal)
       → after_replay (told o) l' t' ws' ls' ts' ≡ replay_call key k n codes l t ws ls ts (length before) → ReplayScratch o (length codes) ws' before now
-      → Spares {M = AfterReplay × List ℕ} replay_refusals (told o) (after_replay (told o) l t ws ls ts, before) (after_replay (told o) l' t' ws' ls' ts', now)
+      → Spares {M = AfterReplay × List ℕ} replay_refusals (told o)
+      (after_replay (told o) l t ws ls ts, before) (after_replay (told o) l' t' ws' ls' ts', now)
   replay_refuses (Ok u) e k' = tt
   replay_refuses (Err why) e k' =
       let p = subst (ReplaySpared l t ws ls ts) (sym e) (replay_spares l t ws ls ts key k n codes (length before)) in
