@@ -1,8 +1,9 @@
 //! Times the proved library beside the original: the same inputs, one run, the lowest of several measurements of each.
-//! bench lines: the line program only.
+//! bench lines: the line program only; bench rounds: rounds only; bench lengths: how many places of a list are used, and nothing timed.
 
 mod choosers;
 mod hashes;
+mod lengths;
 mod lines;
 mod orders;
 mod reservoirs;
@@ -78,6 +79,9 @@ fn splitmix64(v: u64) -> u64 {
 }
 
 fn main() {
+    if std::env::args().nth(1).as_deref() == Some("lengths") {
+        return lengths::all();
+    }
     println!(
         "{:<44} {:>8} {:>8} {:>7}",
         "nanoseconds each", "proved", "Rust", "ratio"

@@ -23,6 +23,8 @@ use Rattle.choosers.specs.Slots.{active, deleted, vacant}
 use Rattle.choosers.specs.SlotCalls.{add_call, remove_call}
 use Rattle.choosers.specs.SlotCalls as slots
 use Rattle.choosers.proofs.SampleLaws.{S_full}
+use Rattle.rounds.specs.Rounds.{join_call, withdraw_call}
+use Rattle.rounds.specs.Rounds as rounds
 use Rattle.cases.specs.Table.{Table}
 
 prev_one : (s : ℕ) → prev s 1 ≡ some 0
@@ -43,7 +45,7 @@ P_zero [] o = refl
 P_zero (x ∷ xs) o = absurd (omega (arith, o.size))
 
 pub cases : Table
-unfolding layer_of log2 below admit_call fitting sample every last same exchange exchange_by incoming not_below standing written round round_function next_key rotate_right bucket_hashes numbers later_numbers shrink_call tested choosers.fitting ascends counts_from add_call remove_call slots.fitting active deleted vacant
+unfolding layer_of log2 below admit_call fitting sample every last same exchange exchange_by incoming not_below standing written round round_function next_key rotate_right bucket_hashes numbers later_numbers shrink_call tested choosers.fitting ascends counts_from add_call remove_call slots.fitting active deleted vacant rounds.fitting rounds.admit_call join_call withdraw_call
 cases = record {
   round_key_0 = refl;
   round_key_2 = refl;
@@ -66,4 +68,9 @@ cases = record {
   count_after_2_1 = λ a b c. refl;
   join_after_2_1 = λ a b c. refl;
   admit_5 = λ key. refl;
+  round_count_1_2 = λ key a b c. refl;
+  round_join_1_2 = λ key a b c. refl;
+  round_count_2_1 = λ key a b c. refl;
+  round_join_2_1 = λ key a b c. refl;
+  round_admit_5 = λ key. refl;
 }

@@ -1,3 +1,4 @@
 pub mod Cases
 pub mod RoundExamples
 pub mod SessionExamples
+pub mod FleetExamples

@@ -18,14 +18,16 @@ use Rattle.choosers.specs.Choosers.{g, largest_g, S, Q}
 use Rattle.choosers.specs.Slots.{active, deleted, actives, vacant, holder, state_of, slot_among, slot_of}
 use Rattle.choosers.specs.SlotCalls as Slots
 use Rattle.std.specs.Prelude as rust
+use Rattle.std.proofs.Math.Path.{subst₂}
 use Rattle.answers.specs.declared.Refusal.TheVariants.{SlotNotActive}
 use Rattle.rounds.specs.declared.round.Round.{Round}
 use Rattle.rounds.specs.Rounds.{State, state, fitting, open_call, after_open, admit_call, join_call, withdraw_call}
-use Rattle.rounds.specs.Plans.{terminal_of, plan_call, after_plan, sheet}
-use Rattle.rounds.specs.Ledgers.{Call, admit, join, withdraw, ledger, first_ledger, free_slot, accept, plan_from, ledger_plan, fed_all}
-use Rattle.rounds.specs.Histories.{call, after_all, all_said, Opens}
+use Rattle.rounds.specs.Ledgers.{Call, admit, join, withdraw, ledger, first_ledger, free_slot, accept, sheet, plan_from, ledger_plan, fed_all}
+use Rattle.rounds.specs.Plans.{terminal_of, plan_call, after_plan}
+use Rattle.rounds.specs.Histories.{Opens, AllMade, made_none, made_next, admit_left, join_left, join_returned, withdraw_returned, refusals, call, after_all, all_said}
 use Rattle.rounds.specs.Demand3.{Reached}
-use Rattle.rounds.specs.CallsMade.{AllMade, made_none, made_next, admit_left, join_left, join_returned, withdraw_returned}
+use Rattle.rounds.proofs.RoundLaws.{open_shows}
+use Rattle.rounds.proofs.MadeLaws.{calls_made}
 
 abbrev key : ℕ
 key = 0x0123_4567_89AB_CDEF
@@ -81,7 +83,16 @@ unfolding after_all call admit_call join_call withdraw_call fitting Reservoir.fi
 after_all_lem = refl
 
 pub reached : Reached end
-reached = record { key = key; k = 2; n = 3; start = begin; opens = opens; calls = calls; is = after_all_lem }
+reached = record {
+  key = key;
+  k = 2;
+  n = 3;
+  start = begin;
+  opens = opens;
+  calls = calls;
+  answers = said;
+  made = subst₂ (AllMade begin calls) all_said_lem after_all_lem (calls_made calls begin (first_ledger key 2 3) (open_shows key 2 3 begin opens));
+}
 
 -- its plan, over the first two places of lists of three: location 9 to terminal 0, 13 to terminal 1
 pub planned : plan_call end (5 ∷ 5 ∷ 5 ∷ []) (6 ∷ 6 ∷ 6 ∷ []) 3 ≡ after_plan (says tt) (9 ∷ 13 ∷ 5 ∷ []) (0 ∷ 1 ∷ 6 ∷ [])
@@ -95,7 +106,7 @@ none_active = refl
 
 -- ---- the ledger's side, from the key, the calls and which of them were refused
 
-pub fed_all_lem : fed_all (first_ledger key 2 3) calls said ≡ ledger key 2 14 (1 ∷ 0 ∷ []) 2
+pub fed_all_lem : fed_all (first_ledger key 2 3) calls (refusals said) ≡ ledger key 2 14 (1 ∷ 0 ∷ []) 2
 unfolding fed_all accept free_slot due has same other P whole layer_of log2 below output counted zero_top top_bits layer start rounds round round_function next_key over rotate_right
 fed_all_lem = refl
 

@@ -8,3 +8,4 @@ pub mod ChooserCrossLaws
 pub mod SlotCrossLaws
 pub mod RoundCrossLaws
 pub mod RefusedLaws
+pub mod RoundHistoryLaws

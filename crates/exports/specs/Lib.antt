@@ -9,3 +9,4 @@ pub mod Chooser
 pub mod Slots
 pub mod Rounds
 pub mod RefusedBy
+pub mod RoundHistories

@@ -2,7 +2,7 @@
 -- k, the n reached and the active terminals alone define; with memory like the program's, whatever the round.
 -- Assumes nothing.
 use mathlib.Core.Path.{◌≡◌, refl, sym, ap, ◌∙◌, subst}
-use mathlib.Core.List.{List, [], ◌∷◌, ◌++◌}
+use mathlib.Core.List.{List, [], ◌∷◌}
 use Prim.Native.Nat.{ℕ, ◌≤◌}
 use native.Mathlib.Omega.{arith}
 use lib.ListN.{length}
@@ -13,14 +13,14 @@ use Rattle.orders.proofs.MemoryLaws.{open_length}
 use Rattle.choosers.specs.Slots.{actives}
 use Rattle.rounds.specs.declared.round.Round.{Round}
 use Rattle.rounds.specs.Rounds.{reservoir_of, State, state, after_open, open_call}
-use Rattle.rounds.specs.Ledgers.{Call, admit, join, withdraw, plan_from}
-use Rattle.rounds.specs.Histories.{call, after_all}
+use Rattle.rounds.specs.Ledgers.{admit, join, withdraw, plan_from}
+use Rattle.rounds.specs.Histories.{made_none, call}
 use Rattle.rounds.specs.Demand3.{Enough, Reached}
 use Rattle.rounds.proofs.RoundLaws.{Kept}
 use Rattle.rounds.proofs.StepLaws.{step_length, step_bytes}
 use Rattle.rounds.proofs.PlanLaws.{own_plan}
 use Rattle.rounds.proofs.ReplayLaws.{plan_lengths}
-use Rattle.rounds.proofs.MoveLaws.{reached_kept}
+use Rattle.rounds.proofs.MadeLaws.{reached_kept, reached_call}
 use Rattle.lines.specs.Commands.{command_of, plan_word, word_alone}
 use Rattle.lines.specs.Replies as Replies
 use Rattle.lines.specs.Sessions.{Site, site, replied, replaced, open_line, admit_line, join_line, withdraw_line, plan_line, World, world, answered, respond, after_lines}
@@ -30,24 +30,6 @@ use Rattle.std.specs.Prelude.{Option, Some, None}
 
 -- ---- every round that lines lead to is reached by calls from an accepted open
 
--- one call more
-after_snoc : (s : State) (xs : List Call) (x : Call) → after_all s (xs ++ (x ∷ [])) ≡ (call (after_all s xs) x).state
-unfolding after_all
-after_snoc s [] x = refl
-after_snoc s (y ∷ xs) x = after_snoc (call s y).state xs x
-
-reached_more : (s : State) → Reached s → (x : Call) → Reached (call s x).state
-reached_more s r x =
-    record {
-      key = r.key;
-      k = r.k;
-      n = r.n;
-      start = r.start;
-      opens = r.opens;
-      calls = r.calls ++ (x ∷ []);
-      is = after_snoc r.start r.calls x ∙ ap (λ (z : State). (call z x).state) r.is;
-    }
-
 abbrev pub Reaches : Option Round → List ℕ → List ℕ → Type 0
 Reaches None l t = Unit {0}
 Reaches (Some r) l t = Reached (state r l t)
@@ -56,26 +38,34 @@ abbrev pub SiteReached : Site → Type 0
 SiteReached s = Reaches s.current s.list s.table
 
 open_reaches : (key k n : ℕ) (s : Site) → SiteReached s → (o : Told Round) (l : List ℕ) → open_call key k n s.list ≡ after_open o l → SiteReached (replaced s o l).site
-unfolding after_all
 open_reaches key k n s h (refusal w) l e = h
 open_reaches key k n s h (says r) l e =
-    record { key = key; k = k; n = n; start = state r l s.table; opens = record { lent = s.list; accepted = e }; calls = []; is = refl }
+    record {
+      key = key;
+      k = k;
+      n = n;
+      start = state r l s.table;
+      opens = record { lent = s.list; accepted = e };
+      calls = [];
+      answers = [];
+      made = made_none (state r l s.table);
+    }
 
 module _ (l t : List ℕ) where
   admit_reaches : (c : Option Round) → Reaches c l t → SiteReached (admit_line (site c l t)).site
   unfolding admit_line call
   admit_reaches None h = tt
-  admit_reaches (Some r) h = reached_more (state r l t) h admit
+  admit_reaches (Some r) h = reached_call (state r l t) h admit
 
   join_reaches : (c : Option Round) → Reaches c l t → SiteReached (join_line (site c l t)).site
   unfolding join_line call
   join_reaches None h = tt
-  join_reaches (Some r) h = reached_more (state r l t) h join
+  join_reaches (Some r) h = reached_call (state r l t) h join
 
   withdraw_reaches : (x : ℕ) (c : Option Round) → Reaches c l t → SiteReached (withdraw_line x (site c l t)).site
   unfolding withdraw_line call
   withdraw_reaches x None h = tt
-  withdraw_reaches x (Some r) h = reached_more (state r l t) h (withdraw x)
+  withdraw_reaches x (Some r) h = reached_call (state r l t) h (withdraw x)
 
 plan_site : (w : World) (c : Option Round) → w.site.current ≡ c → (plan_line w).world.site ≡ w.site
 unfolding plan_line

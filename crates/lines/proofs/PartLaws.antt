@@ -6,18 +6,19 @@ use mathlib.Core.Bool.{true, true≢false, or-true, ◌||◌}
 use mathlib.Core.List.{List, [], ◌∷◌}
 use Prim.Native.Nat.{ℕ, suc, ◌-◌, ◌≤◌, ◌<◌}
 use native.Mathlib.Omega.{arith}
-use borrow.Author.Tests.{le-leb, lt-ltb, eqb-true, eqb-false}
+use borrow.Author.Tests.{le-leb, le-ltb, lt-ltb, eqb-true, eqb-false}
 use lib.Dec.{leb, ltb, eqb}
 use lib.ListN.{length, take, drop, length-append, length-drop}
 use lib.Seq.{length-take-le}
-use Rattle.lists.specs.Told.{Told, says}
+use Rattle.lists.specs.Told.{Told, refusal, says}
 use Rattle.lists.specs.Lists.{written}
 use Rattle.lists.proofs.Tests.{by_test, by_below, by_cond}
 use Rattle.lists.proofs.Tolds.{not_said, said_same}
 use Rattle.lists.proofs.Writing.{written_take}
 use Rattle.lines.specs.Sessions.{World}
 use Rattle.lines.specs.Streams.{Progress, progress, byte, FedPart, fed_part, fed_up_to, room_for, Count, count, AfterFeed, after_feed, feed_call, end_call}
-use Rattle.lines.proofs.StreamLaws.{fed, ended, ended_none, ended_held, byte_line}
+use Rattle.lines.specs.Inputs.{fed, ended, Fits}
+use Rattle.lines.proofs.StreamLaws.{ended_none, ended_held, byte_line}
 
 -- ---- feeding as far as there is room
 
@@ -167,3 +168,19 @@ module _ (w : World) (line : List ℕ) (m : ℕ) (out : List ℕ) (taken put : �
       by_cond (λ (a : AfterFeed). a.told ≡ says (count taken put) → Ends (progress w (take m line) []) out a put) (eqb m 0) _ _
       (λ y. ends_bare (eqb-true m 0 y))
       (λ n. ends_held (eqb-false m 0 n))
+
+-- ---- no refusal
+
+-- with lists long enough feed and finish are not refused
+pub feed_not_refused : (w : World) (line : List ℕ) (m : ℕ) (piece out : List ℕ) → Fits m line w out → (c : ℕ) → (feed_call w line m piece out).told ≡ refusal c → ⊥
+unfolding feed_call
+feed_not_refused w line m piece out f c =
+    rw (le-ltb 81 m f.held, le-ltb (length line) m (omega (arith, f.held, f.line)), le-ltb (length line) 81 f.line, le-ltb (length out) (room_for w.locations) f.out)
+    (λ e. not_said c _ (sym e))
+
+pub finish_not_refused : (w : World) (line : List ℕ) (m : ℕ) (out : List ℕ) → Fits m line w out → (c : ℕ) → (end_call w line m out).told ≡ refusal c → ⊥
+unfolding end_call
+finish_not_refused w line m out f c =
+    by_cond (λ (a : AfterFeed). a.told ≡ refusal c → ⊥) (eqb m 0) _ _
+    (λ y e. not_said c _ (sym e))
+    (λ n. feed_not_refused w line m (10 ∷ []) out f c)

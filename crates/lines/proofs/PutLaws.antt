@@ -12,7 +12,8 @@ use Rattle.std.proofs.lemmas.List.{drop-set}
 use borrow.Rule.Slice.PartMut.{put_mid}
 use Rattle.lists.specs.Lists.{written}
 use Rattle.lists.proofs.Tests.{by_below}
-use Rattle.rounds.specs.Plans.{Sheet, sheet, sheets}
+use Rattle.rounds.specs.Ledgers.{Sheet, sheet}
+use Rattle.rounds.specs.Plans.{sheets}
 use Rattle.lines.specs.Replies.{decimal_of, slot_text, place_line, place_lines}
 use Rattle.lines.specs.InnerLines.{Put, Puts}
 use Rattle.lines.specs.declared.texts.Text.{Text}

@@ -17,7 +17,8 @@ use Rattle.lists.proofs.Spared.{has_within, spared_within}
 use Rattle.answers.specs.declared.Refusal.{Refusal}
 use Rattle.rounds.specs.declared.round.Round.{Round}
 use Rattle.rounds.specs.Rounds.{State, state, open_call, admit_call, join_call, withdraw_call}
-use Rattle.rounds.specs.Plans.{AfterPlan, after_plan, plan_call, Sheet, shown_plan}
+use Rattle.rounds.specs.Plans.{AfterPlan, after_plan, plan_call, shown_plan}
+use Rattle.rounds.specs.Ledgers.{Sheet}
 use Rattle.rounds.specs.RefusedBy.{open_refusals, admit_refusals, join_refusals, withdraw_refusals, plan_refusals}
 use Rattle.rounds.proofs.RefusedLaws as rounds
 use Rattle.lines.specs.Lines.{fields, alike}

@@ -9,8 +9,9 @@ use Rattle.lists.proofs.Writing.{written_take}
 use Rattle.lines.specs.Lines.{lines_of}
 use Rattle.lines.specs.Sessions.{World, answers}
 use Rattle.lines.specs.Streams.{progress}
+use Rattle.lines.specs.Inputs.{fed, ended}
 use Rattle.lines.specs.Runs.{whole, Runs, finishes, feeds}
-use Rattle.lines.proofs.StreamLaws.{fed, ended, put_out, program}
+use Rattle.lines.proofs.StreamLaws.{put_out, program}
 use Rattle.lines.proofs.PartLaws.{feed_feeds, feed_text, finish_ends}
 
 run_puts : {w : World} {h : List ℕ} {parts : List (List ℕ)} {text : List ℕ} → Runs w h parts text → text ≡ put_out w h parts

@@ -1,31 +1,23 @@
 -- The line program's theorem: whatever parts an input comes in, what is put out for it is the text of the answers to its lines.
 -- Assumes nothing.
 use mathlib.Core.Path.{◌≡◌, refl, sym, ap, ◌∙◌}
-use mathlib.Core.Bool.{true, false, cond}
+use mathlib.Core.Bool.{true, false}
 use mathlib.Core.List.{List, [], ◌∷◌, ◌++◌, append_assoc, append-nil}
-use Prim.Native.Nat.{ℕ}
+use Prim.Native.Nat.{ℕ, ◌≤◌}
 use native.Mathlib.Omega.{arith}
 use lib.Dec.{eqb}
-use lib.ListN.{length, take}
+use lib.ListN.{length, take, length-take}
 use borrow.Author.Tests.{eq-eqb, ne_eqb}
 use Rattle.lists.proofs.Tests.{by_test}
 use Rattle.lines.specs.Lines.{onto, lines_of}
 use Rattle.lines.specs.Replies.{text_of}
 use Rattle.lines.specs.Sessions.{World, respond, Response, answers}
 use Rattle.lines.specs.Streams.{Progress, progress, byte}
+use Rattle.lines.specs.Inputs.{fed, ended}
 use Rattle.lines.specs.Runs.{whole}
 use Rattle.lines.proofs.HeldLaws.{take_cut, respond_first}
 
--- ---- bytes fed with no regard to room, and parts of an input
-
--- one byte after the other
-abbrev pub fed : Progress → List ℕ → Progress
-fed s [] = s
-fed s (b ∷ l) = fed (byte s b) l
-
--- The end of the input: "a line feed, which the last input line may lack".
-unfoldable pub ended : Progress → Progress
-ended s = cond (eqb (length s.held) 0) s (byte s 10)
+-- ---- parts of an input
 
 -- What the program puts out for an input that comes in parts: the answers of each part, and at the end those of the line that is
 -- held. Between the parts the list is emptied.
@@ -46,7 +38,7 @@ byte_held s b e = rw e
 
 -- ---- what was put out before stays in front
 
-abbrev behind : List ℕ → Progress → Progress
+abbrev pub behind : List ℕ → Progress → Progress
 behind t s = progress s.world s.held (t ++ s.text)
 
 byte_behind : (t : List ℕ) (s : Progress) (b : ℕ) → byte (behind t s) b ≡ behind t (byte s b)
@@ -57,11 +49,11 @@ byte_behind t s b =
     ∙ ap (behind t) (sym (byte_line s b e)))
     (λ e. byte_held (behind t s) b e ∙ ap (behind t) (sym (byte_held s b e)))
 
-fed_behind : (t : List ℕ) (s : Progress) (l : List ℕ) → fed (behind t s) l ≡ behind t (fed s l)
+pub fed_behind : (t : List ℕ) (s : Progress) (l : List ℕ) → fed (behind t s) l ≡ behind t (fed s l)
 fed_behind t s [] = refl
 fed_behind t s (b ∷ l) = ap (λ (x : Progress). fed x l) (byte_behind t s b) ∙ fed_behind t (byte s b) l
 
-ended_behind : (t : List ℕ) (s : Progress) → ended (behind t s) ≡ behind t (ended s)
+pub ended_behind : (t : List ℕ) (s : Progress) → ended (behind t s) ≡ behind t (ended s)
 unfolding ended
 ended_behind t s =
     by_test (eqb (length s.held) 0)
@@ -150,9 +142,29 @@ lines_fed w p t (b ∷ l) =
     ∙ ap (λ (ls : List (List ℕ)). t ++ answers w ls) (sym (after_onto p b (lines_of l)))
     ∙ rw e)
 
--- THE THEOREM. An input that comes in any parts: what is put out is the text of the answers to its lines, in order.
+-- An input as a whole: what is put out is the text of the answers to its lines, in order.
+pub input_answers : (w : World) (l : List ℕ) → (ended (fed (progress w [] []) l)).text ≡ answers w (lines_of l)
+input_answers w l = lines_fed w [] [] l ∙ ap (answers w) (after_none (lines_of l))
+
+-- THE THEOREM. An input that comes in any parts: what is put out is the same.
 pub program : (w : World) (parts : List (List ℕ)) → put_out w [] parts ≡ answers w (lines_of (whole parts))
-program w parts =
-    put_whole w [] parts
-    ∙ lines_fed w [] [] (whole parts)
-    ∙ ap (answers w) (after_none (lines_of (whole parts)))
+program w parts = put_whole w [] parts ∙ input_answers w (whole parts)
+
+-- ---- what is held
+
+byte_few : (s : Progress) (b : ℕ) → length (byte s b).held ≤ 81
+byte_few s b =
+    by_test (eqb b 10)
+    (λ e. omega (arith, ap (λ (x : Progress). length x.held) (byte_line s b e)))
+    (λ e. omega (arith, ap (λ (x : Progress). length x.held) (byte_held s b e), length-take 81 (s.held ++ (b ∷ []))))
+
+-- never more than 81 bytes
+pub fed_few : (s : Progress) (l : List ℕ) → length s.held ≤ 81 → length (fed s l).held ≤ 81
+fed_few s [] h = h
+fed_few s (b ∷ l) h = fed_few (byte s b) l (byte_few s b)
+
+-- and nothing after the end
+pub ended_bare : (w : World) (h t : List ℕ) → (ended (progress w h t)).held ≡ []
+ended_bare w [] t = ap (λ (s : Progress). s.held) (ended_none (progress w [] t) refl)
+ended_bare w (b ∷ h) t =
+    ap (λ (s : Progress). s.held) (ended_held (progress w (b ∷ h) t) (λ z. omega arith) ∙ byte_line (progress w (b ∷ h) t) 10 refl)

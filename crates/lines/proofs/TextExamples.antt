@@ -3,7 +3,7 @@
 use mathlib.Core.Path.{◌≡◌, refl}
 use mathlib.Core.List.{[], ◌∷◌}
 use mathlib.Core.Option.{some}
-use Rattle.rounds.specs.Plans.{sheet}
+use Rattle.rounds.specs.Ledgers.{sheet}
 use Rattle.lines.specs.Replies.{opened, admitted, nothing, joined, withdrawn, planned, refused, decimal_of, tabbed, place_line, text_of}
 
 --     opened

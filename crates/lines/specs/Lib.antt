@@ -3,6 +3,7 @@ pub mod Commands
 pub mod Replies
 pub mod Sessions
 pub mod Streams
+pub mod Inputs
 pub mod Runs
 pub mod RefusedBy
 pub mod InnerLines

@@ -2,7 +2,7 @@
 -- Assumes nothing.
 use Rattle.std.specs.Prelude.{cond, List, [], ◌∷◌, ◌++◌, ℕ, zero, suc, ◌+◌, ◌/◌, ◌%◌, ltb}
 use Rattle.std.proofs.Math.Option.{Option, none, some}
-use Rattle.rounds.specs.Plans.{Sheet}
+use Rattle.rounds.specs.Ledgers.{Sheet}
 
 -- what is answered to a line
 pub data Reply : Type 0 where

@@ -1,7 +1,8 @@
 // The text of an answer, put behind what stands in a list so far.
 ghost use Rattle.std.specs.Prelude.{◌≡◌, ◌++◌, ◌∷◌, [], ◌+◌, ◌*◌, ◌≤◌, length, take};
 ghost use Rattle.std.proofs.Math.Option.{some};
-ghost use Rattle.rounds.specs.Plans.{sheet, sheets};
+ghost use Rattle.rounds.specs.Ledgers.{sheet};
+ghost use Rattle.rounds.specs.Plans.{sheets};
 ghost use Rattle.lines.specs.Replies.{decimal_of, tabbed, line_end, place_line, place_lines, text_of};
 
 use answers::Refusal;

@@ -129,7 +129,7 @@ unfolding grown
 grown_at key i k olds = (λ t. replace (zero_top_lem i t) (zeros_at key i k t) olds)
 
 module _ (r : ConsistentReservoir) (l : List ℕ) (s : Kept r l) (full : r.used ≤ r.k) where
-  k_listed : length (held_at (key_of r) (suc (j_of r)) r.k r.n) ≡ r.k
+  pub k_listed : length (held_at (key_of r) (suc (j_of r)) r.k r.n) ≡ r.k
   k_listed =
       omega (arith, ap length (list_at r l s), used_is r l s, held_long (key_of r) (suc (j_of r)) r.k r.n (omega (arith, s.j_le)) s.k_le s.n_le)
 
@@ -137,7 +137,7 @@ module _ (r : ConsistentReservoir) (l : List ℕ) (s : Kept r l) (full : r.used 
   up i h = omega (arith, s.n_le, pow_up (suc (j_of r)) i h)
 
   -- a layer that is passed over takes just k outputs
-  just_k : (i : ℕ) → j_of r < i → ltb r.k (length (up_to_zeros (key_of r) i r.k)) ≡ false → inputs_at (key_of r) i r.k ≡ r.k
+  pub just_k : (i : ℕ) → j_of r < i → ltb r.k (length (up_to_zeros (key_of r) i r.k)) ≡ false → inputs_at (key_of r) i r.k ≡ r.k
   just_k i h f =
       omega (
         arith,

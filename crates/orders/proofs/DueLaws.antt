@@ -37,10 +37,10 @@ pub due_none : (key k n : ℕ) → ((u : ℕ) → n ≤ u → u < 2 ^ 30 → Ent
 unfolding due
 due_none key k n f = first_none (λ u. has u (take k (P key (suc u)))) n (2 ^ 30 - n) (λ u a b. enters_no key k u (f u a (omega arith)))
 
-some_is : (i v : ℕ) → some i ≡ some v → i ≡ v
+pub some_is : (i v : ℕ) → some i ≡ some v → i ≡ v
 some_is i v e = cc
 
-none_not : (v : ℕ) → none ≡ some v → ⊥
+pub none_not : (v : ℕ) → none ≡ some v → ⊥
 none_not v e = let z : true ≡ false = cc in true≢false z
 
 -- what is due is below 2^30, and is the smallest that is among the first k

@@ -25,3 +25,4 @@ pub mod NextLaws
 pub mod Examples
 pub mod MemoryLaws
 pub mod RefusedLaws
+pub mod AnewLaws

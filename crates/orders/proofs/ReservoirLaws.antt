@@ -124,6 +124,7 @@ pub record Opens (key k n : ℕ) (r : ConsistentReservoir) (l : List ℕ) : Type
   pub key_is : key_of r ≡ key
   pub k_is : r.k ≡ k
   pub n_is : r.n ≡ n
+  pub layer_is : j_of r ≡ layer_of n
   pub kept : Kept r l
 
 pub opening_held : (key k n : ℕ) → n ≤ 2 ^ 30 → opening key k n ≡ held_at key (suc (layer_of n)) k n
@@ -150,5 +151,6 @@ open_kept Q k n key l out in' =
       key_is = refl;
       k_is = refl;
       n_is = refl;
+      layer_is = refl;
       kept = written_kept key k n (layer_of n) (length (opening key k n)) (opening key k n) l (omega arith) (ltb-false n k m3) (layer_fits n) (layer_in n b) refl (opening_held key k n b);
     })))))))))

@@ -1,68 +1,32 @@
--- Demand 3: the theorem over every list of calls from an accepted open. What follows from it stands in MoveLaws.antt.
+-- Demand 3: the theorem.
 -- Assumes nothing.
-use mathlib.Core.Path.{◌≡◌, refl, sym, ap, subst, ◌∙◌}
-use mathlib.Core.List.{List, [], ◌∷◌}
-use Prim.Native.Nat.{ℕ}
-use lib.ListN.{length}
-use Rattle.lists.specs.Told.{Told, refusal, says}
+use mathlib.Core.Path.{sym, ap, ◌∙◌}
+use Rattle.choosers.proofs.SlotLaws.{has_actives}
 use Rattle.rounds.specs.Rounds.{State}
-use Rattle.rounds.specs.Plans.{plan_call, shown_plan}
-use Rattle.rounds.specs.Ledgers.{Call, admit, join, withdraw, Ledger, first_ledger, accept, ledger_plan, fed, fed_all}
-use Rattle.rounds.specs.Histories.{call, after_all, all_said, Opens}
-use Rattle.rounds.specs.Demand3.{Agree, Enough, Follows}
+use Rattle.rounds.specs.Ledgers.{Ledger, first_ledger}
+use Rattle.rounds.specs.Demand3.{ledger_of, Shown, Demand3}
 use Rattle.rounds.proofs.RoundLaws.{Shows, open_shows}
-use Rattle.rounds.proofs.StepLaws.{step, step_bytes}
-use Rattle.rounds.proofs.PlanLaws.{plan_is}
+use Rattle.rounds.proofs.MadeLaws.{all_made_shows, reached_shows}
+use Rattle.rounds.proofs.MoveLaws.{plan_shown, same_plan, eleven_none, none_eleven, withdraw_moves, join_moves, admit_samples, admit_moves}
 
--- ---- over a list of calls
+pub shown_is : (s : State) (g : Ledger) → Shows s g → Shown s g
+shown_is s g h = record {
+  key = ap (λ (z : Ledger). z.key) h.numbers;
+  k = ap (λ (z : Ledger). z.k) h.numbers;
+  n = ap (λ (z : Ledger). z.n) h.numbers;
+  active = λ x. sym (has_actives s.table s.round.total x) ∙ h.set x;
+}
 
--- every answer is the ledger's, and the round after them shows the ledger after them
-pub all_agree : (calls : List Call) (s : State) (g : Ledger) → Shows s g → Agree g calls (all_said s calls)
-unfolding Agree all_said
-all_agree [] s g h = tt
-all_agree (x ∷ xs) s g h =
-    let a = step s g h x in
-    (a.0, all_agree xs (call s x).state (fed g x (call s x).told) a.1)
-
-pub all_shows : (calls : List Call) (s : State) (g : Ledger) → Shows s g → Shows (after_all s calls) (fed_all g calls (all_said s calls))
-unfolding after_all all_said fed_all
-all_shows [] s g h = h
-all_shows (x ∷ xs) s g h = all_shows xs (call s x).state (fed g x (call s x).told) (step s g h x).1
-
--- the table keeps its length, the ledger its k
-pub all_bytes : (calls : List Call) (s : State) → length (after_all s calls).table ≡ length s.table
-unfolding after_all
-all_bytes [] s = refl
-all_bytes (x ∷ xs) s = all_bytes xs (call s x).state ∙ step_bytes s x
-
-accept_k : (g : Ledger) (x : Call) → (accept g x).k ≡ g.k
-unfolding accept
-accept_k g admit = refl
-accept_k g join = refl
-accept_k g (withdraw x) = refl
-
-fed_k : (g : Ledger) (x : Call) (w : Told (List ℕ)) → (fed g x w).k ≡ g.k
-fed_k g x (refusal w) = refl
-fed_k g x (says vs) = accept_k g x
-
-fed_all_k : (calls : List Call) (g : Ledger) (ws : List (Told (List ℕ))) → (fed_all g calls ws).k ≡ g.k
-unfolding fed_all
-fed_all_k [] g ws = refl
-fed_all_k (x ∷ xs) g [] = refl
-fed_all_k (x ∷ xs) g (w ∷ ws) = fed_all_k xs (fed g x w) ws ∙ fed_k g x w
-
--- ---- the theorem
-
-pub demand_3 : (key k n : ℕ) (s : State) → Opens key k n s → (calls : List Call) → Follows key k n s calls
-demand_3 key k n s o calls =
-    let begins : Shows s (first_ledger key k n) = open_shows key k n s o in
-    let g : Ledger = fed_all (first_ledger key k n) calls (all_said s calls) in
-    let is-k : g.k ≡ k = fed_all_k calls (first_ledger key k n) (all_said s calls) in
-    let plans : (ls ts : List ℕ) (places : ℕ) → Enough g.k (length (after_all s calls).table) ls ts places → shown_plan g.k (plan_call (after_all s calls) ls ts places) ≡ ledger_plan g =
-    plan_is (after_all s calls) g (all_shows calls s (first_ledger key k n) begins) in
-    record {
-      said = all_agree calls s (first_ledger key k n) begins;
-      planned = λ ls ts places e.
-          ap (λ (i : ℕ). shown_plan i (plan_call (after_all s calls) ls ts places)) (sym is-k)
-          ∙ plans ls ts places (subst (λ (b : ℕ). Enough g.k b ls ts places) (sym (all_bytes calls s)) (subst (λ (i : ℕ). Enough i (length s.table) ls ts places) (sym is-k) e));
-    }
+-- THE THEOREM
+pub demand_3 : Demand3
+demand_3 = record {
+  planned = λ s h p is. plan_shown s (ledger_of h) (reached_shows s h) p is;
+  shown = λ s h. shown_is s (ledger_of h) (reached_shows s h);
+  eleven = λ s h p is. (eleven_none s h p is, none_eleven s h p is);
+  same_plan = same_plan;
+  answered = λ s h. (all_made_shows (first_ledger h.key h.k h.n) (open_shows h.key h.k h.n h.start h.opens) h.made).0;
+  withdrawn = withdraw_moves;
+  joined = join_moves;
+  sampled = admit_samples;
+  kept = admit_moves;
+}

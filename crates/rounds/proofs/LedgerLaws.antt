@@ -16,8 +16,7 @@ use Rattle.lists.proofs.Having.{has_head, has_tail}
 use Rattle.orders.specs.Orders.{P}
 use Rattle.choosers.specs.Slots.{slot_of, state_of}
 use Rattle.choosers.proofs.SlotLaws.{slot_same, slot_none}
-use Rattle.rounds.specs.Plans.{Sheet, sheet}
-use Rattle.rounds.specs.Ledgers.{plan_from}
+use Rattle.rounds.specs.Ledgers.{Sheet, sheet, plan_from}
 use Rattle.rounds.specs.Demand3.{terminal_in, terminal}
 use Rattle.lists.proofs.Sets.{Same, same_empty}
 

@@ -2,11 +2,13 @@ pub mod RoundLaws
 pub mod StepLaws
 pub mod LedgerLaws
 pub mod PlanLaws
-pub mod Demand3Laws
 pub mod MadeLaws
 pub mod UnchangedLaws
 pub mod MoveLaws
+pub mod Demand3Laws
+pub mod ReplyLaws
 pub mod RefusalLaws
+pub mod FleetLaws
 pub mod ReadLaws
 pub mod ReplayLaws
 pub mod RoundCallLaws

@@ -1,5 +1,4 @@
--- What follows from demand 3's theorem for the rounds so reached: the same four facts, the same plan; what a withdraw, a join and
--- an admit move; and that 12 is never met.
+-- Of the rounds reached: the same four facts, the same plan; refusal 11; and what a withdraw, a join and an admit move.
 -- Assumes nothing.
 use mathlib.Core.Path.{◌≡◌, refl, sym, ap, subst, ◌∙◌}
 use mathlib.Core.Logic.{◌⊎◌, inl, inr, ⊎_elim, ◌≢◌}
@@ -13,7 +12,7 @@ use borrow.Author.Tests.{ne_eqb}
 use lib.ListN.{length, take}
 use Rattle.lists.specs.Told.{Told, refusal, says}
 use Rattle.lists.specs.Lists.{has, without, Exchanges}
-use Rattle.lists.proofs.Tolds.{not_said, said_same}
+use Rattle.lists.proofs.Tolds.{not_said}
 use Rattle.lists.proofs.Tests.{by_test, by_same}
 use Rattle.lists.proofs.Members.{has_no}
 use Rattle.lists.proofs.Having.{has_head, has_more, has_others}
@@ -23,30 +22,26 @@ use Rattle.orders.proofs.ReservoirLaws.{sample_is}
 use Rattle.orders.proofs.AdmissionLaws.{admit_exchange}
 use Rattle.choosers.specs.Slots.{active, state_of, slot_of}
 use Rattle.choosers.proofs.SlotLaws.{has_actives, slot_out, slot_put}
-use Rattle.rounds.specs.Rounds.{reservoir_of, State, After}
-use Rattle.rounds.specs.Plans.{sampled, Sheet, sheet}
-use Rattle.rounds.specs.Ledgers.{Call, admit, join, withdraw, Ledger, free_slot, due_in, n_after, accept, in_and_out, answer, plan_from, first_ledger}
-use Rattle.rounds.specs.Histories.{call}
+use Rattle.rounds.specs.Rounds.{reservoir_of, State}
+use Rattle.rounds.specs.Ledgers.{Call, admit, join, withdraw, Ledger, free_slot, due_in, n_after, accept, in_and_out, answer, Sheet, sheet, plan_from}
+use Rattle.rounds.specs.Plans.{sampled, shown_plan}
+use Rattle.rounds.specs.Histories.{Made}
 use Rattle.rounds.specs.Demand3.{Reached, PlanOf, terminal, Moves, Alike, SampleMoves}
 use Rattle.lists.proofs.Sets.{Same}
-use Rattle.rounds.proofs.RoundLaws.{Kept, actives_of, shown, Shows, shows_own, open_shows}
-use Rattle.rounds.proofs.StepLaws.{possible, Refuses, Takes, outcome}
+use Rattle.rounds.proofs.RoundLaws.{Kept, actives_of, shown, Shows, shows_own}
+use Rattle.rounds.proofs.StepLaws.{Follows}
+use Rattle.rounds.proofs.MadeLaws.{made_step, reached_kept}
 use Rattle.rounds.proofs.LedgerLaws.{slot_in, plan_of_same, terminal_is}
 use Rattle.rounds.proofs.PlanLaws.{own_plan}
-use Rattle.rounds.proofs.Demand3Laws.{all_shows}
 
 -- ---- a round so reached
-
-pub reached_kept : (s : State) → Reached s → Kept s
-reached_kept s r =
-    subst Kept r.is (all_shows r.calls r.start (first_ledger r.key r.k r.n) (open_shows r.key r.k r.n r.start r.opens)).kept
 
 -- its plan is by its key, k, n and active slots
 abbrev plan_by : State → List ℕ → Told (List Sheet)
 plan_by s A = plan_from s.round.master_key s.round.k s.round.n A
 
 plan_by_lem : (s : State) → Kept s → (p : Told (List Sheet)) → PlanOf s p → p ≡ plan_by s (actives_of s)
-plan_by_lem s kept p h = sym h.is ∙ own_plan s kept h.ls h.ts h.places h.enough
+plan_by_lem s kept p h = sym h.is ∙ ap (shown_plan s.round.k) h.promise ∙ own_plan s kept h.ls h.ts h.places h.enough
 
 -- "Rounds so reached and alike in these four have the same plan."
 pub same_plan : (s t : State) → Reached s → Reached t → Alike s t → (p q : Told (List Sheet)) → PlanOf s p → PlanOf t q → p ≡ q
@@ -84,19 +79,17 @@ one_value : (x y : ℕ) → x ∷ [] ≡ y ∷ [] → x ≡ y
 one_value x y e = cc
 
 -- an accepted call of a kept round: what it says is the ledger's, and the round after it shows the ledger's
-record Accepted (s : State) (x : Call) (vs : List ℕ) : Type 0 where
+record Accepted (s : State) (x : Call) (vs : List ℕ) (t : State) : Type 0 where
   values : vs ≡ answer (shown s (actives_of s)) x
-  shows : Shows (call s x).state (accept (shown s (actives_of s)) x)
+  shows : Shows t (accept (shown s (actives_of s)) x)
 
-accepted : (s : State) → Kept s → (x : Call) (vs : List ℕ) → (call s x).told ≡ says vs → Accepted s x vs
-accepted s kept x vs e =
-    ⊎_elim
-    (λ (r : Refuses s (shown s (actives_of s)) x (call s x)). not_said (possible x) vs (sym (ap (λ (a : After (List ℕ)). a.told) r.is) ∙ e))
-    (λ (t : Takes (shown s (actives_of s)) x (call s x)). record { values = said_same vs (answer (shown s (actives_of s)) x) (sym e ∙ t.told_is); shows = t.shows })
-    (outcome s (shown s (actives_of s)) (shows_own s kept) x)
+accepted : (s t : State) → Kept s → (x : Call) (vs : List ℕ) → Made s x (says vs) t → Accepted s x vs t
+accepted s t kept x vs m =
+    let f : Follows (shown s (actives_of s)) x (says vs) t = made_step (shown s (actives_of s)) (shows_own s kept) m in
+    record { values = f.0; shows = f.1 }
 
 -- the plan of a round that shows a ledger
-plan_shown : (s : State) (g : Ledger) → Shows s g → (p : Told (List Sheet)) → PlanOf s p → p ≡ plan_from g.key g.k g.n g.A
+pub plan_shown : (s : State) (g : Ledger) → Shows s g → (p : Told (List Sheet)) → PlanOf s p → p ≡ plan_from g.key g.k g.n g.A
 plan_shown s g h p hp =
     plan_by_lem s h.kept p hp
     ∙ plan_of_same s.round.master_key s.round.k s.round.n (actives_of s) g.A h.set
@@ -118,16 +111,16 @@ fewer key x y A xs d =
     (λ h. rw h refl)
 
 -- "an accepted withdraw moves only the locations of the terminal withdrawn"
-pub withdraw_moves : (s : State) → Reached s → (x : ℕ) (vs : List ℕ) → (call s (withdraw x)).told ≡ says vs
-    → (p q : Told (List Sheet)) → PlanOf s p → PlanOf (call s (withdraw x)).state q → (y : ℕ) → Moves p q y → terminal p y ≡ some x
+pub withdraw_moves : (s t : State) → Reached s → (x : ℕ) (vs : List ℕ) → Made s (withdraw x) (says vs) t
+    → (p q : Told (List Sheet)) → PlanOf s p → PlanOf t q → (y : ℕ) → Moves p q y → terminal p y ≡ some x
 unfolding accept
-withdraw_moves s r x vs e p q hp hq y moves =
+withdraw_moves s t r x vs m p q hp hq y moves =
     let kept : Kept s = reached_kept s r in
     let key : ℕ = s.round.master_key in
     let xs : List ℕ = take s.round.k (P key s.round.n) in
     let before : terminal p y ≡ slot_in key (actives_of s) xs y = ap (λ (z : Told (List Sheet)). terminal z y) (plan_by_lem s kept p hp) ∙ terminal_is key s.round.k s.round.n (actives_of s) y in
     let now : terminal q y ≡ slot_in key (without x (actives_of s)) xs y =
-    ap (λ (z : Told (List Sheet)). terminal z y) (plan_shown (call s (withdraw x)).state (accept (shown s (actives_of s)) (withdraw x)) (accepted s kept (withdraw x) vs e).shows q hq)
+    ap (λ (z : Told (List Sheet)). terminal z y) (plan_shown t (accept (shown s (actives_of s)) (withdraw x)) (accepted s t kept (withdraw x) vs m).shows q hq)
     ∙ terminal_is key s.round.k s.round.n (without x (actives_of s)) y in
     by_some (terminal p y) x
     (λ h. h)
@@ -144,19 +137,19 @@ more key x y A xs =
     (λ h. rw h (inl refl))
 
 -- "an accepted join moves locations only to the joiner"
-pub join_moves : (s : State) → Reached s → (x : ℕ) → (call s join).told ≡ says (x ∷ [])
-    → (p q : Told (List Sheet)) → PlanOf s p → PlanOf (call s join).state q → (y : ℕ) → Moves p q y → terminal q y ≡ some x
+pub join_moves : (s t : State) → Reached s → (x : ℕ) → Made s join (says (x ∷ [])) t
+    → (p q : Told (List Sheet)) → PlanOf s p → PlanOf t q → (y : ℕ) → Moves p q y → terminal q y ≡ some x
 unfolding accept answer
-join_moves s r x e p q hp hq y moves =
+join_moves s t r x m p q hp hq y moves =
     let kept : Kept s = reached_kept s r in
-    let a : Accepted s join (x ∷ []) = accepted s kept join (x ∷ []) e in
+    let a : Accepted s join (x ∷ []) t = accepted s t kept join (x ∷ []) m in
     let key : ℕ = s.round.master_key in
     let xs : List ℕ = take s.round.k (P key s.round.n) in
     let free : ℕ = free_slot (shown s (actives_of s)) in
     let is_free : x ≡ free = one_value x free a.values in
     let before : terminal p y ≡ slot_in key (actives_of s) xs y = ap (λ (z : Told (List Sheet)). terminal z y) (plan_by_lem s kept p hp) ∙ terminal_is key s.round.k s.round.n (actives_of s) y in
     let now : terminal q y ≡ slot_in key (free ∷ actives_of s) xs y =
-    ap (λ (z : Told (List Sheet)). terminal z y) (plan_shown (call s join).state (accept (shown s (actives_of s)) join) a.shows q hq)
+    ap (λ (z : Told (List Sheet)). terminal z y) (plan_shown t (accept (shown s (actives_of s)) join) a.shows q hq)
     ∙ terminal_is key s.round.k s.round.n (free ∷ actives_of s) y in
     ⊎_elim
     (λ (h : slot_in key (free ∷ actives_of s) xs y ≡ slot_in key (actives_of s) xs y). absurd (moves (before ∙ sym (now ∙ h))))
@@ -183,14 +176,14 @@ exchanges s t ks kt ekey ek (some v) d en =
     )
 
 -- "An admit changes the sample by exactly the two locations it names, one out and one in, or not at all"; "relative order"
-pub admit_samples : (s : State) → Reached s → (vs : List ℕ) → (call s admit).told ≡ says vs → SampleMoves (sampled s) (sampled (call s admit).state) vs
+pub admit_samples : (s t : State) → Reached s → (vs : List ℕ) → Made s admit (says vs) t → SampleMoves (sampled s) (sampled t) vs
 unfolding accept answer
-admit_samples s r vs e =
+admit_samples s t r vs m =
     let kept : Kept s = reached_kept s r in
-    let a : Accepted s admit vs = accepted s kept admit vs e in
-    let n : Shows (call s admit).state (accept (shown s (actives_of s)) admit) = a.shows in
-    subst (λ (ws : List ℕ). SampleMoves (sampled s) (sampled (call s admit).state) ws) (sym a.values)
-    (exchanges s (call s admit).state kept n.kept (ap (λ (z : Ledger). z.key) n.numbers) (ap (λ (z : Ledger). z.k) n.numbers) (due_in (shown s (actives_of s))) refl (ap (λ (z : Ledger). z.n) n.numbers))
+    let a : Accepted s admit vs t = accepted s t kept admit vs m in
+    let n : Shows t (accept (shown s (actives_of s)) admit) = a.shows in
+    subst (λ (ws : List ℕ). SampleMoves (sampled s) (sampled t) ws) (sym a.values)
+    (exchanges s t kept n.kept (ap (λ (z : Ledger). z.key) n.numbers) (ap (λ (z : Ledger). z.k) n.numbers) (due_in (shown s (actives_of s))) refl (ap (λ (z : Ledger). z.n) n.numbers))
 
 -- what is in one sample and is not exchanged is in the other
 stays : (l l' vs : List ℕ) → SampleMoves l l' vs → (y : ℕ) → has y vs ≡ false → has y l' ≡ has y l
@@ -207,14 +200,13 @@ stays l l' vs h y out =
     h
 
 -- "the others keep terminal": only the locations that it names move
-pub admit_moves : (s : State) → Reached s → (vs : List ℕ) → (call s admit).told ≡ says vs
-    → (p q : Told (List Sheet)) → PlanOf s p → PlanOf (call s admit).state q → (y : ℕ) → Moves p q y → has y vs ≡ true
+pub admit_moves : (s t : State) → Reached s → (vs : List ℕ) → Made s admit (says vs) t
+    → (p q : Told (List Sheet)) → PlanOf s p → PlanOf t q → (y : ℕ) → Moves p q y → has y vs ≡ true
 unfolding accept
-admit_moves s r vs e p q hp hq y moves =
+admit_moves s t r vs m p q hp hq y moves =
     let kept : Kept s = reached_kept s r in
-    let t : State = (call s admit).state in
-    let a : Accepted s admit vs = accepted s kept admit vs e in
-    let n : Shows (call s admit).state (accept (shown s (actives_of s)) admit) = a.shows in
+    let a : Accepted s admit vs t = accepted s t kept admit vs m in
+    let n : Shows t (accept (shown s (actives_of s)) admit) = a.shows in
     let key : ℕ = s.round.master_key in
     let same_key : t.round.master_key ≡ key = ap (λ (z : Ledger). z.key) n.numbers in
     let before : terminal p y ≡ slot_in key (actives_of s) (sampled s) y =
@@ -226,4 +218,4 @@ admit_moves s r vs e p q hp hq y moves =
     ∙ (λ i. slot_in (same_key i) (actives_of s) (sym (sampled_is t n.kept) i) y) in
     by_test (has y vs)
     (λ h. h)
-    (λ h. absurd (moves (before ∙ sym (now ∙ ap (λ (b : Bool). cond b (slot_of key y (actives_of s)) none) (stays (sampled s) (sampled t) vs (admit_samples s r vs e) y h)))))
+    (λ h. absurd (moves (before ∙ sym (now ∙ ap (λ (b : Bool). cond b (slot_of key y (actives_of s)) none) (stays (sampled s) (sampled t) vs (admit_samples s t r vs m) y h)))))

@@ -19,8 +19,8 @@ use Rattle.choosers.specs.Slots.{holder, state_of, slot_of, slot_among}
 use Rattle.choosers.specs.SlotCalls as Slots
 use Rattle.choosers.proofs.SlotLaws.{holder_slot, slot_some}
 use Rattle.rounds.specs.Rounds.{reservoir_of, State}
-use Rattle.rounds.specs.Plans.{after_plan, sampled, terminal_of, plan_call, Sheet, sheet, sheets, shown_plan}
-use Rattle.rounds.specs.Ledgers.{Ledger, plan_from, ledger_plan}
+use Rattle.rounds.specs.Ledgers.{Ledger, Sheet, sheet, plan_from, ledger_plan}
+use Rattle.rounds.specs.Plans.{after_plan, sampled, terminal_of, plan_call, sheets, shown_plan}
 use Rattle.rounds.specs.Demand3.{Enough}
 use Rattle.rounds.proofs.RoundLaws.{Kept, actives_of, Shows, fits_kept}
 use Rattle.rounds.proofs.LedgerLaws.{plan_of_same}

@@ -1,47 +1,47 @@
--- Which refusals a round reached from open can get, and when; above all never 12.
+-- What the calls of a round reached say, refusals among it; above all never 12.
 -- Assumes nothing.
 use mathlib.Core.Path.{◌≡◌, sym, ap, ◌∙◌}
-use mathlib.Core.Logic.{⊎_elim, ◌≢◌}
+use mathlib.Core.Logic.{◌≢◌}
 use mathlib.Core.Bool.{true, false, ◌||◌}
 use mathlib.Core.List.{List}
 use Prim.Native.Nat.{ℕ, ◌≤◌, min}
 use native.Mathlib.Omega.{arith}
-use lib.Dec.{ltb, eqb}
+use lib.Dec.{leb, ltb, eqb}
 use lib.ListN.{length}
-use Rattle.lists.specs.Told.{refusal, says}
+use Rattle.lists.specs.Told.{Told, refusal, says}
+use Rattle.lists.specs.Lists.{has}
 use Rattle.lists.proofs.Tolds.{not_said, refusal_same}
 use Rattle.lists.proofs.Tests.{by_cond}
 use Rattle.choosers.specs.Slots.{state_of, slot_of}
 use Rattle.choosers.specs.SlotCalls as Slots
 use Rattle.choosers.proofs.GetLaws.{get_slot}
-use Rattle.rounds.specs.Rounds.{State, map_of, After}
+use Rattle.rounds.specs.Rounds.{State, map_of}
+use Rattle.rounds.specs.Ledgers.{Call, admit, join, withdraw, Ledger, due_in, free_slot, answer}
 use Rattle.rounds.specs.Plans.{AfterPlan, terminal_of, plan_call}
-use Rattle.rounds.specs.Ledgers.{Call, admit, join, withdraw, answer}
 use Rattle.rounds.specs.Histories.{call}
-use Rattle.rounds.specs.Demand3.{Reached}
-use Rattle.rounds.proofs.RoundLaws.{actives_of, shown, shows_own, fits_kept}
-use Rattle.rounds.proofs.StepLaws.{possible, Refuses, Takes, Outcome, outcome}
+use Rattle.rounds.specs.Demand3.{Reached, ledger_of}
+use Rattle.rounds.specs.Outcomes.{too_short, reply, Outcomes}
+use Rattle.rounds.proofs.RoundLaws.{actives_of, fits_kept}
 use Rattle.rounds.proofs.PlanLaws.{terminal_slot}
-use Rattle.rounds.proofs.MoveLaws.{reached_kept}
+use Rattle.rounds.proofs.MadeLaws.{reached_shows, reached_kept}
+use Rattle.rounds.proofs.UnchangedLaws.{refused_unchanged}
+use Rattle.rounds.proofs.ReplyLaws.{reached_said}
 
--- A call is refused for want of room, with its one number, and changes nothing; or it answers as the ledger does.
-pub reached_outcome : (s : State) → Reached s → (x : Call) → Outcome s (shown s (actives_of s)) x (call s x)
-reached_outcome s r x = outcome s (shown s (actives_of s)) (shows_own s (reached_kept s r)) x
+-- A round reached is never refused 12: no call,
+reply_not_12 : (g : Ledger) (places bytes : ℕ) (x : Call) → reply g places bytes x ≢ refusal 12
+unfolding reply
+reply_not_12 g places bytes admit =
+    by_cond (λ (w : Told (List ℕ)). w ≢ refusal 12) (too_short g places (due_in g)) _ _ (λ y e. let z : 4 ≡ 12 = refusal_same 4 12 e in omega arith) (λ n e. not_said 12 (answer g admit) (sym e))
+reply_not_12 g places bytes join =
+    by_cond (λ (w : Told (List ℕ)). w ≢ refusal 12) (leb (min bytes Slots.slot_limit) (free_slot g)) _ _ (λ y e. let z : 9 ≡ 12 = refusal_same 9 12 e in omega arith) (λ n e. not_said 12 (answer g join) (sym e))
+reply_not_12 g places bytes (withdraw x) =
+    by_cond (λ (w : Told (List ℕ)). w ≢ refusal 12) (has x g.A) _ _ (λ y e. not_said 12 (answer g (withdraw x)) (sym e)) (λ n e. let z : 10 ≡ 12 = refusal_same 10 12 e in omega arith)
 
--- ---- never 12
+replied : (s : State) (h : Reached s) (x : Call) → (call s x).told ≡ reply (ledger_of h) (length s.list) (length s.table) x
+replied s h = reached_said s h (ledger_of h) (reached_shows s h)
 
-possible_not : (x : Call) → possible x ≡ 12 → ⊥
-possible_not admit e = omega arith
-possible_not join e = omega arith
-possible_not (withdraw x) e = omega arith
-
--- A round so reached is never refused 12: no call,
 pub never_12 : (s : State) → Reached s → (x : Call) → (call s x).told ≢ refusal 12
-never_12 s r x e =
-    ⊎_elim
-    (λ (h : Refuses s (shown s (actives_of s)) x (call s x)). possible_not x (refusal_same (possible x) 12 (sym (ap (λ (a : After (List ℕ)). a.told) h.is) ∙ e)))
-    (λ (h : Takes (shown s (actives_of s)) x (call s x)). not_said 12 (answer (shown s (actives_of s)) x) (sym e ∙ h.told_is))
-    (reached_outcome s r x)
+never_12 s h x e = reply_not_12 (ledger_of h) (length s.list) (length s.table) x (sym (replied s h x) ∙ e)
 
 -- and no plan, whatever it is lent.
 pub plan_never_12 : (s : State) → Reached s → (ls ts : List ℕ) (places : ℕ) → (plan_call s ls ts places).told ≢ refusal 12
@@ -54,6 +54,10 @@ plan_never_12 s r ls ts places =
     (λ n. by_cond (λ (a : AfterPlan). a.told ≢ refusal 12) (eqb (length (actives_of s)) 0) _ _
     (λ y e. let z : 11 ≡ 12 = refusal_same 11 12 e in omega arith)
     (λ n e. not_said 12 tt (sym e))))
+
+-- THE THEOREM
+pub outcomes : Outcomes
+outcomes = record { replied = replied; refused = λ s t x w. refused_unchanged; never_12 = never_12; plan_never_12 = plan_never_12 }
 
 -- ---- the plan's slots are get's
 

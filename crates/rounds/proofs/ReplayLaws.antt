@@ -2,14 +2,15 @@
 -- Assumes nothing.
 use mathlib.Core.Path.{◌≡◌, refl, sym, ap, subst, ◌∙◌}
 use mathlib.Core.Logic.{⊎_elim, ◌≢◌}
-use mathlib.Core.Bool.{◌||◌}
+use mathlib.Core.Bool.{Bool, true, false, ◌||◌}
 use mathlib.Core.List.{List, [], ◌∷◌, ◌++◌, map, append_assoc}
 use Prim.Native.Nat.{ℕ, ◌+◌, ◌*◌, min}
 use native.Mathlib.Omega.{arith}
+use Rattle.std.proofs.Math.Path.{subst₂}
 use borrow.Author.Tests.{lt-ltb, le-ltb}
 use lib.Dec.{ltb, eqb}
 use lib.ListN.{length, drop, length-map}
-use Rattle.lists.specs.Told.{Told, refusal, says, map_told}
+use Rattle.lists.specs.Told.{Told, refusal, says, map_told, is_refusal}
 use Rattle.lists.specs.Lists.{every, written}
 use Rattle.lists.proofs.Tolds.{not_said}
 use Rattle.lists.proofs.Tests.{by_below, by_cond}
@@ -23,13 +24,14 @@ use Rattle.choosers.specs.SlotCalls as Slots
 use Rattle.rounds.specs.declared.round.Round.{Round}
 use Rattle.rounds.specs.Rounds.{reservoir_of, State, state, After, AfterOpen, after_open, open_call, fitting}
 use Rattle.rounds.specs.Plans.{AfterPlan, after_plan, sampled, terminal_of, plan_call, shown_plan}
-use Rattle.rounds.specs.Ledgers.{Call, admit, join, withdraw, Ledger, first_ledger, ledger_plan, fed, fed_all}
-use Rattle.rounds.specs.Histories.{nothing_said, call, after_all, all_said, Opens}
-use Rattle.rounds.specs.Demand3.{Agree, Enough, Follows}
+use Rattle.rounds.specs.Ledgers.{Call, admit, join, withdraw, Ledger, first_ledger, accept, ledger_plan, fed, fed_all}
+use Rattle.rounds.specs.Histories.{nothing_said, Opens, refusals, call, after_all, all_said}
+use Rattle.rounds.specs.Demand3.{Agree, Enough}
 use Rattle.rounds.specs.Replays.{known, call_of, coded, coded_all, read_one, read_all, AfterReplay, after_replay, run_of, opened_run, replay_call, planned_in, ByLedger, Replayed}
 use Rattle.rounds.proofs.RoundLaws.{Kept, actives_of, Shows, open_shows}
-use Rattle.rounds.proofs.StepLaws.{possible, Refuses, Takes, outcome, step}
-use Rattle.rounds.proofs.Demand3Laws.{all_shows, demand_3}
+use Rattle.rounds.proofs.StepLaws.{possible, Refuses, Takes, outcome, step, step_bytes}
+use Rattle.rounds.proofs.PlanLaws.{plan_is}
+use Rattle.rounds.proofs.MadeLaws.{all_made_shows, calls_made}
 use Rattle.rounds.proofs.ReadLaws.{Readable, AllReadable, read_one_lem, read_all_lem, drop_all, answer_readable}
 
 -- ---- every answer can be read
@@ -43,13 +45,13 @@ one_readable : (s : State) (g : Ledger) → Shows s g → (x : Call) → Readabl
 one_readable s g h x =
     ⊎_elim
     (λ (r : Refuses s g x (call s x)). subst (λ (a : After (List ℕ)). Readable a.told) (sym r.is) (possible_some x))
-    (λ (t : Takes g x (call s x)). subst Readable (sym t.told_is) (answer_readable g x))
+    (λ (t : Takes s g x (call s x)). subst Readable (sym t.told_is) (answer_readable g x))
     (outcome s g h x)
 
 all_readable : (calls : List Call) (s : State) (g : Ledger) → Shows s g → AllReadable (all_said s calls)
 unfolding all_said
 all_readable [] s g h = tt
-all_readable (x ∷ xs) s g h = (one_readable s g h x, all_readable xs (call s x).state (fed g x (call s x).told) (step s g h x).1)
+all_readable (x ∷ xs) s g h = (one_readable s g h x, all_readable xs (call s x).state (fed g x (is_refusal (call s x).told)) (step s g h x).1)
 
 length_said : (calls : List Call) (s : State) → length (all_said s calls) ≡ length calls
 unfolding all_said
@@ -96,6 +98,25 @@ plan_lengths s kept ls ts places =
     long : length (sampled s) ≡ s.round.k
     long = sample_length (reservoir_of s.round) s.list kept.list
 
+-- the table keeps its length, the ledger its k
+all_bytes : (calls : List Call) (s : State) → length (after_all s calls).table ≡ length s.table
+unfolding after_all
+all_bytes [] s = refl
+all_bytes (x ∷ xs) s = all_bytes xs (call s x).state ∙ step_bytes s x
+
+accept_k : (g : Ledger) (x : Call) → (accept g x).k ≡ g.k
+unfolding accept
+accept_k g admit = refl
+accept_k g join = refl
+accept_k g (withdraw x) = refl
+
+fed_all_k : (calls : List Call) (g : Ledger) (rs : List Bool) → (fed_all g calls rs).k ≡ g.k
+unfolding fed_all
+fed_all_k [] g rs = refl
+fed_all_k (x ∷ xs) g [] = refl
+fed_all_k (x ∷ xs) g (true ∷ rs) = fed_all_k xs g rs
+fed_all_k (x ∷ xs) g (false ∷ rs) = fed_all_k xs (accept g x) rs ∙ accept_k g x
+
 -- ---- a run of calls, and the plan after it
 
 module _ (key k n : ℕ) (s : State) (o : Opens key k n s) (xs : List Call) (ws ls ts : List ℕ) (places : ℕ) where
@@ -111,8 +132,23 @@ module _ (key k n : ℕ) (s : State) (o : Opens key k n s) (xs : List Call) (ws 
   begins : Shows s (first_ledger key k n)
   begins = open_shows key k n s o
 
+  abbrev g : Ledger
+  g = fed_all (first_ledger key k n) xs (refusals said)
+
+  follows : Agree (first_ledger key k n) xs said × Shows (after_all s xs) g
+  follows = all_made_shows (first_ledger key k n) begins (calls_made xs s (first_ledger key k n) begins)
+
   kept : Kept (after_all s xs)
-  kept = (all_shows xs s (first_ledger key k n) begins).kept
+  kept = follows.1.kept
+
+  is-k : g.k ≡ k
+  is-k = fed_all_k xs (first_ledger key k n) (refusals said)
+
+  -- the plan after them, with lists and scratch that are long enough for s
+  is_planned : Enough k (length s.table) ls ts places → shown_plan k p ≡ ledger_plan g
+  is_planned e =
+      ap (λ (i : ℕ). shown_plan i p) (sym is-k)
+      ∙ plan_is (after_all s xs) g follows.1 ls ts places (subst₂ (λ (i b : ℕ). Enough i b ls ts places) (sym is-k) (sym (all_bytes xs s)) e)
 
   one_by_one : written words ws ≡ coded_all said ++ (coded (map_told nothing_said p.told) ++ drop (length words) ws)
   unfolding written
@@ -138,13 +174,12 @@ module _ (key k n : ℕ) (s : State) (o : Opens key k n s) (xs : List Call) (ws 
   run_ledger : ByLedger key k n xs (length s.table) places (written words ws) p.locations p.terminals
   unfolding planned_in
   run_ledger =
-      let f : Follows key k n s xs = demand_3 key k n s o xs in
       record {
-        said = subst (λ (z : List (Told (List ℕ))). Agree (first_ledger key k n) xs z) (sym reads) f.said;
+        said = subst (λ (z : List (Told (List ℕ))). Agree (first_ledger key k n) xs z) (sym reads) follows.0;
         planned = λ e.
             ap (λ (w : Told (Unit {0})). shown_plan k (after_plan w p.locations p.terminals)) reads_plan
-            ∙ f.planned ls ts places (enough e)
-            ∙ ap (λ (z : List (Told (List ℕ))). ledger_plan (fed_all (first_ledger key k n) xs z)) (sym reads);
+            ∙ is_planned (enough e)
+            ∙ ap (λ (z : List (Told (List ℕ))). ledger_plan (fed_all (first_ledger key k n) xs (refusals z))) (sym reads);
       }
 
 -- ---- replay

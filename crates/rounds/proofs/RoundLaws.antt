@@ -1,17 +1,18 @@
 -- What holds of a round after every list of calls, and what its ledger is then. Such a round is never refused 12, and an open
 -- begins so.
 -- Assumes nothing.
-use mathlib.Core.Path.{◌≡◌, refl, ap, subst}
+use mathlib.Core.Path.{◌≡◌, refl, sym, ap}
 use mathlib.Core.Bool.{true}
 use mathlib.Core.List.{List, []}
 use Prim.Native.Nat.{ℕ}
+use Rattle.std.proofs.Math.Path.{subst₂}
 use Rattle.lists.specs.Told.{says, map_told}
-use Rattle.orders.specs.declared.consistent_reservoir.ConsistentReservoir.{ConsistentReservoir}
 use Rattle.orders.proofs.ReservoirLaws as List
 use Rattle.choosers.specs.Slots.{actives}
 use Rattle.choosers.specs.SlotCalls as Slots
 use Rattle.choosers.proofs.SlotCallLaws.{new_fits}
-use Rattle.rounds.specs.Rounds.{reservoir_of, map_of, round_of, State, state, fitting, AfterOpen, after_open, open_call}
+use Rattle.rounds.specs.declared.round.Round.{Round}
+use Rattle.rounds.specs.Rounds.{reservoir_of, map_of, round_of, State, fitting, AfterOpen, after_open, open_call}
 use Rattle.rounds.specs.Ledgers.{Ledger, ledger, first_ledger}
 use Rattle.rounds.specs.Histories.{Opens}
 use Rattle.lists.proofs.Tolds.{not_said, said_same}
@@ -51,19 +52,22 @@ none_active : (t : List ℕ) → actives t 0 ≡ []
 unfolding actives
 none_active t = refl
 
-pub open_shows : (key k n : ℕ) (s : State) → Opens key k n s → Shows s (first_ledger key k n)
+-- the reservoir of a round just opened
+pub open_list : (key k n : ℕ) (s : State) → Opens key k n s → List.Opens key k n (reservoir_of s.round) s.list × (s.round.total ≡ 0)
 unfolding open_call
-open_shows key k n s o =
-    List.open_kept (λ a. after_open (map_told (λ r. round_of r (Slots.map_of 0)) a.told) a.list ≡ after_open (says s.round) s.list → Shows s (first_ledger key k n)) k n key o.lent
+open_list key k n s o =
+    List.open_kept (λ a. after_open (map_told (λ r. round_of r (Slots.map_of 0)) a.told) a.list ≡ after_open (says s.round) s.list → List.Opens key k n (reservoir_of s.round) s.list × (s.round.total ≡ 0)) k n key o.lent
     (λ w e. not_said w s.round (ap (λ (a : AfterOpen). a.told) e))
     (λ r l q e. let is-round : round_of r (Slots.map_of 0) ≡ s.round = said_same (round_of r (Slots.map_of 0)) s.round (ap (λ (a : AfterOpen). a.told) e) in
     let is-list : l ≡ s.list = ap (λ (a : AfterOpen). a.list) e in
-    subst (λ (u : State). Shows u (first_ledger key k n)) (λ i. state (is-round i) (is-list i) s.table) (begins r l s.table q))
+    (subst₂ (List.Opens key k n) (ap reservoir_of is-round) is-list q, sym (ap (λ (r : Round). r.total) is-round)))
     o.accepted
-  where
-    begins : (r : ConsistentReservoir) (l t : List ℕ) → List.Opens key k n r l → Shows (state (round_of r (Slots.map_of 0)) l t) (first_ledger key k n)
-    begins r l t q = record {
-      numbers = λ i. ledger (q.key_is i) (q.k_is i) (q.n_is i) [] 0;
-      set = λ x. rw (none_active t) refl;
-      kept = record { list = q.kept; table = new_fits (Slots.map_of 0) t refl };
+
+pub open_shows : (key k n : ℕ) (s : State) → Opens key k n s → Shows s (first_ledger key k n)
+open_shows key k n s o =
+    let q = open_list key k n s o in
+    record {
+      numbers = λ i. ledger (q.0.key_is i) (q.0.k_is i) (q.0.n_is i) [] (q.1 i);
+      set = λ x. rw (q.1, none_active s.table) refl;
+      kept = record { list = q.0.kept; table = new_fits (map_of s.round) s.table q.1 };
     }

@@ -2,7 +2,7 @@
 -- the ledger does, and the round after it shows the ledger after it.
 -- Assumes nothing.
 use mathlib.Core.Path.{◌≡◌, refl, sym, ap, subst, ◌∙◌}
-use mathlib.Core.Bool.{Bool, true, false, cond, not}
+use mathlib.Core.Bool.{Bool, true, false, true≢false, cond, not}
 use mathlib.Core.Logic.{◌⊎◌, inl, inr, ⊎_elim}
 use mathlib.Core.List.{List, [], ◌∷◌}
 use mathlib.Core.Option.{Option, none, some, get_or}
@@ -12,8 +12,9 @@ use native.Mathlib.Omega.{arith}
 use borrow.Author.Tests.{eq-eqb, ne_eqb}
 use lib.Dec.{eqb}
 use lib.ListN.{length}
-use Rattle.lists.specs.Told.{Told, says, map_told}
+use Rattle.lists.specs.Told.{Told, says, map_told, is_refusal}
 use Rattle.lists.specs.Lists.{has, without}
+use Rattle.lists.proofs.Tolds.{not_said}
 use Rattle.lists.proofs.Tests.{by_test, by_below, by_same, by_cond}
 use Rattle.lists.proofs.Searching.{first_same}
 use Rattle.orders.specs.ReservoirCalls as Reservoir
@@ -52,15 +53,21 @@ pub record Refuses (s : State) (g : Ledger) (x : Call) (a : After (List ℕ)) : 
   pub no_room : NoRoom s g x
   pub is : a ≡ refused (possible x) s
 
-pub record Takes (g : Ledger) (x : Call) (a : After (List ℕ)) : Type 0 where
+pub record Takes (s : State) (g : Ledger) (x : Call) (a : After (List ℕ)) : Type 0 where
+  pub room : NoRoom s g x → ⊥
   pub told_is : a.told ≡ says (answer g x)
   pub shows : Shows a.state (accept g x)
 
 abbrev pub Outcome : State → Ledger → Call → After (List ℕ) → Type 0
-Outcome s g x a = Refuses s g x a ⊎ Takes g x a
+Outcome s g x a = Refuses s g x a ⊎ Takes s g x a
+
+-- what an admit names, as the ledger has it
+pub in_out_lem : (g : Ledger) (o : Option ℕ) → exchanged (in_out g.key g.k g.n o) ≡ in_and_out g o
+in_out_lem g none = refl
+in_out_lem g (some v) = refl
 
 -- a fitting round's call is that of its part
-through : {A : Type 0} (Q : After (List ℕ) → Type 0) (f : A → List ℕ) (b : Bool) (x y : After A) → b ≡ true → Q (valued f x) → Q (valued f (cond b x y))
+pub through : {A : Type 0} (Q : After (List ℕ) → Type 0) (f : A → List ℕ) (b : Bool) (x y : After A) → b ≡ true → Q (valued f x) → Q (valued f (cond b x y))
 through Q f b x y e q = subst (λ (c : Bool). Q (valued f (cond c x y))) (sym e) q
 
 -- ---- the calls
@@ -71,18 +78,17 @@ module _ (s : State) (A : List ℕ) (set : Same (actives_of s) A) (kept : Kept s
 
   -- ---- admit
 
-  in_out_lem : (o : Option ℕ) → exchanged (in_out g.key g.k g.n o) ≡ in_and_out g o
-  in_out_lem none = refl
-  in_out_lem (some v) = refl
-
   n_after_lem : (n : ℕ) (o : Option ℕ) → reached_by n o ≡ n_after n o
   n_after_lem n none = refl
   n_after_lem n (some v) = sym (add-one v)
 
-  admit_takes : (a : Reservoir.After (Option (ℕ × ℕ))) → Admits (reservoir_of s.round) a → Takes g admit (valued exchanged (by_reservoir s a))
+  admit_takes : Admits (reservoir_of s.round) (Reservoir.admit_call (reservoir_of s.round) s.list)
+      → Takes s g admit (valued exchanged (by_reservoir s (Reservoir.admit_call (reservoir_of s.round) s.list)))
   unfolding accept answer
-  admit_takes a m = record {
-    told_is = ap (map_told exchanged) m.told_is ∙ ap says (in_out_lem (due_in g));
+  admit_takes m = record {
+    room = λ (h : Short (reservoir_of s.round) s.list (Reservoir.admit_call (reservoir_of s.round) s.list)).
+        not_said 4 _ (sym (ap (λ (a : Reservoir.After (Option (ℕ × ℕ))). a.told) h.is_refused) ∙ m.told_is);
+    told_is = ap (map_told exchanged) m.told_is ∙ ap says (in_out_lem g (due_in g));
     shows = record {
       numbers = λ i. ledger (m.key_is i) (m.k_is i) ((m.n_is ∙ n_after_lem g.n (due_in g)) i) A s.round.total;
       set = set;
@@ -97,7 +103,7 @@ module _ (s : State) (A : List ℕ) (set : Same (actives_of s) A) (kept : Kept s
       (⊎_elim
       (λ (h : Short (reservoir_of s.round) s.list (Reservoir.admit_call (reservoir_of s.round) s.list)).
       inl (record { no_room = h; is = ap (λ (a : Reservoir.After (Option (ℕ × ℕ))). valued exchanged (by_reservoir s a)) h.is_refused }))
-      (λ (h : Admits (reservoir_of s.round) (Reservoir.admit_call (reservoir_of s.round) s.list)). inr (admit_takes _ h))
+      (λ (h : Admits (reservoir_of s.round) (Reservoir.admit_call (reservoir_of s.round) s.list)). inr (admit_takes h))
       (admit_kept (reservoir_of s.round) s.list kept.list))
 
   -- ---- join
@@ -123,11 +129,12 @@ module _ (s : State) (A : List ℕ) (set : Same (actives_of s) A) (kept : Kept s
       (λ e. rw (eq-eqb v s.round.total e) (omega arith))
       (λ d. rw (ne_eqb v s.round.total d) (omega (arith, vacant_le s.table s.round.total))))
 
-  join_takes : v < min (length s.table) Slots.slot_limit → Takes g join (valued slot_said (by_slots s (Slots.add_call m s.table)))
+  join_takes : v < min (length s.table) Slots.slot_limit → Takes s g join (valued slot_said (by_slots s (Slots.add_call m s.table)))
   unfolding accept answer
   join_takes r =
       let e : (Slots.add_call m s.table).told ≡ says v = add_room m s.table kept.table r in
       record {
+        room = λ h. omega (arith, h, vacant_free);
         told_is = ap (map_told slot_said) e ∙ ap (λ (x : ℕ). says (x ∷ [])) vacant_free;
         shows = record {
           numbers = λ i. ledger g.key g.k g.n (free_slot g ∷ A) ((add_count m s.table v e ∙ count_up) i);
@@ -156,11 +163,12 @@ module _ (s : State) (A : List ℕ) (set : Same (actives_of s) A) (kept : Kept s
         (λ e. rw (eq-eqb (x + 1) s.round.total e) (omega arith))
         (λ d. rw (ne_eqb (x + 1) s.round.total d) refl)
 
-    withdraw_takes : active s.table s.round.total x ≡ true → Takes g (withdraw x) (valued nothing_said (by_slots s (Slots.remove_call m s.table x)))
+    withdraw_takes : active s.table s.round.total x ≡ true → Takes s g (withdraw x) (valued nothing_said (by_slots s (Slots.remove_call m s.table x)))
     unfolding accept answer
     withdraw_takes y =
         let e : (Slots.remove_call m s.table x).told ≡ says tt = remove_active m s.table x kept.table y in
         record {
+          room = λ h. true≢false (sym (sym (set x) ∙ has_actives s.table s.round.total x ∙ y) ∙ h);
           told_is = ap (map_told nothing_said) e;
           shows = record {
             numbers = λ i. ledger g.key g.k g.n (without x A) ((remove_count m s.table x e ∙ count_down) i);
@@ -191,11 +199,15 @@ outcome s g h x = subst (λ (z : Ledger). Outcome s z x (call s x)) h.numbers (o
 
 -- ---- a step: the answer is the ledger's where it is no refusal, and the round after it shows the ledger fed with it
 
-pub step : (s : State) (g : Ledger) → Shows s g → (x : Call) → agrees g x (call s x).told × Shows (call s x).state (fed g x (call s x).told)
+-- what an answer w, and t after it, are to the ledger
+abbrev pub Follows : Ledger → Call → Told (List ℕ) → State → Type 0
+Follows g x w t = agrees g x w × Shows t (fed g x (is_refusal w))
+
+pub step : (s : State) (g : Ledger) → Shows s g → (x : Call) → Follows g x (call s x).told (call s x).state
 step s g h x =
     ⊎_elim
-    (λ (r : Refuses s g x (call s x)). subst (λ (a : After (List ℕ)). agrees g x a.told × Shows a.state (fed g x a.told)) (sym r.is) (tt, h))
-    (λ (t : Takes g x (call s x)). subst (λ (w : Told (List ℕ)). agrees g x w × Shows (call s x).state (fed g x w)) (sym t.told_is) (refl, t.shows))
+    (λ (r : Refuses s g x (call s x)). subst (λ (a : After (List ℕ)). Follows g x a.told a.state) (sym r.is) (tt, h))
+    (λ (t : Takes s g x (call s x)). subst (λ (w : Told (List ℕ)). Follows g x w (call s x).state) (sym t.told_is) (refl, t.shows))
     (outcome s g h x)
 
 -- the list and the table keep their lengths

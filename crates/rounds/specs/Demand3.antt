@@ -1,47 +1,21 @@
--- Demand 3. "This holds for every list of admit, join and withdraw calls from an accepted open, refused ones among them."
+-- Demand 3: one statement, the record `Demand3` at the end, with a field for each of its clauses.
 -- Assumes nothing.
-use Rattle.std.specs.Prelude.{◌≡◌, ◌⊎◌, ◌≢◌, cond, List, [], ◌∷◌, ℕ, ◌≤◌, min, eqb, length}
-use Rattle.std.proofs.Math.Option.{Option, none}
-use Rattle.lists.specs.Told.{Told, refusal, says}
-use Rattle.lists.specs.Lists.{Exchanges}
+use Rattle.std.specs.Prelude.{◌≡◌, ◌⊎◌, ◌≢◌, true, false, cond, List, [], ◌∷◌, ℕ, ◌≤◌, min, eqb, length, Result}
+use Rattle.std.proofs.Math.Option.{Option, none, some}
+use Rattle.lists.specs.Told.{Told, refusal, says, is_refusal}
+use Rattle.lists.specs.Lists.{has, Exchanges}
+use Rattle.answers.specs.declared.Refusal.{Refusal}
+use Rattle.answers.specs.Refusals.{told}
 use Rattle.choosers.specs.Slots.{active}
 use Rattle.choosers.specs.SlotCalls.{slot_limit}
 use Rattle.rounds.specs.Rounds.{State}
-use Rattle.rounds.specs.Plans.{Sheet, shown_plan, plan_call}
-use Rattle.rounds.specs.Ledgers.{Call, Ledger, first_ledger, answer, ledger_plan, fed, fed_all}
-use Rattle.rounds.specs.Histories.{after_all, all_said, Opens}
+use Rattle.rounds.specs.Ledgers.{Call, admit, join, withdraw, Ledger, first_ledger, answer, Sheet, ledger_plan, fed, fed_all}
+use Rattle.rounds.specs.Plans.{sampled, after_plan, plan_call, shown_plan}
+use Rattle.rounds.specs.Histories.{Opens, Made, AllMade, refusals}
 
--- ---- the theorem's parts
+-- ---- a round so reached, and its ledger
 
--- "Every admit and join not refused answers as the ledger does."
-abbrev pub agrees : Ledger → Call → Told (List ℕ) → Type 0
-agrees g x (refusal w) = Unit {0}
-agrees g x (says vs) = vs ≡ answer g x
-
--- one answer a call, each as the ledger's, which is fed with the calls before it and whether they were refused
-unfoldable pub Agree : Ledger → List Call → List (Told (List ℕ)) → Type 0
-Agree g [] [] = Unit {0}
-Agree g [] (a ∷ ws) = ⊥
-Agree g (x ∷ xs) [] = ⊥
-Agree g (x ∷ xs) (a ∷ ws) = agrees g x a × Agree (fed g x a) xs ws
-
--- "The plan, asked with lists and scratch long enough": of a ledger's k, and a table of so many bytes
-pub record Enough (k bytes : ℕ) (ls ts : List ℕ) (places : ℕ) : Type 0 where
-  pub locations : k ≤ length ls
-  pub terminals : k ≤ length ts
-  pub scratch : min bytes slot_limit ≤ places
-
--- Every answer is the ledger's, and so is the plan after them: "at each place the location and terminal that 01's ledger defines
--- from key, k, the n reached and the set of active terminals alone. It is refusal 11 exactly when none is active." From s, opened
--- with key, k and n.
-pub record Follows (key k n : ℕ) (s : State) (calls : List Call) : Type 0 where
-  pub said : Agree (first_ledger key k n) calls (all_said s calls)
-  pub planned : (ls ts : List ℕ) (places : ℕ) → Enough k (length s.table) ls ts places
-      → shown_plan k (plan_call (after_all s calls) ls ts places) ≡ ledger_plan (fed_all (first_ledger key k n) calls (all_said s calls))
-
--- ---- what follows for the rounds so reached
-
--- a round that an accepted open and a list of calls reach
+-- "This holds for every list of admit, join and withdraw calls from an accepted open, refused ones among them."
 pub record Reached (s : State) : Type 0 where
   pub key : ℕ
   pub k : ℕ
@@ -49,29 +23,56 @@ pub record Reached (s : State) : Type 0 where
   pub start : State
   pub opens : Opens key k n start
   pub calls : List Call
-  pub is : after_all start calls ≡ s
+  pub answers : List (Told (List ℕ))
+  pub made : AllMade start calls answers s
 
--- the plan of a round, by lists and scratch that are long enough
+-- 01: "Fed are the open's key, k and n, then the calls in order, each by name with its numbers but no memory, and whether it was
+-- refused"
+abbrev pub ledger_of : {s : State} → Reached s → Ledger
+ledger_of h = fed_all (first_ledger h.key h.k h.n) h.calls (refusals h.answers)
+
+-- 01: "A is the active terminals, n the n reached."
+pub record Shown (s : State) (g : Ledger) : Type 0 where
+  pub key : s.round.master_key ≡ g.key
+  pub k : s.round.k ≡ g.k
+  pub n : s.round.n ≡ g.n
+  pub active : (x : ℕ) → active s.table s.round.total x ≡ has x g.A
+
+-- Each answer that is no refusal is the ledger's, which is fed with the calls before it and whether they were refused.
+abbrev pub agrees : Ledger → Call → Told (List ℕ) → Type 0
+agrees g x (refusal w) = Unit {0}
+agrees g x (says vs) = vs ≡ answer g x
+
+unfoldable pub Agree : Ledger → List Call → List (Told (List ℕ)) → Type 0
+Agree g [] [] = Unit {0}
+Agree g [] (a ∷ ws) = ⊥
+Agree g (x ∷ xs) [] = ⊥
+Agree g (x ∷ xs) (a ∷ ws) = agrees g x a × Agree (fed g x (is_refusal a)) xs ws
+
+-- ---- its plan
+
+-- "lists and scratch long enough": of k locations, and a table of so many bytes
+pub record Enough (k bytes : ℕ) (ls ts : List ℕ) (places : ℕ) : Type 0 where
+  pub locations : k ≤ length ls
+  pub terminals : k ≤ length ts
+  pub scratch : min bytes slot_limit ≤ places
+
+-- p is the plan of s: lent were lists and scratch long enough, and by plan's promise it answered o and left the two lists. A round has
+-- one plan, whatever is lent.
 pub record PlanOf (s : State) (p : Told (List Sheet)) : Type 0 where
   pub ls : List ℕ
   pub ts : List ℕ
   pub places : ℕ
   pub enough : Enough s.round.k (length s.table) ls ts places
-  pub is : shown_plan s.round.k (plan_call s ls ts places) ≡ p
+  pub o : Result (Unit {0}) Refusal
+  pub ls' : List ℕ
+  pub ts' : List ℕ
+  pub promise : after_plan (told o) ls' ts' ≡ plan_call s ls ts places
+  pub is : shown_plan s.round.k (after_plan (told o) ls' ts') ≡ p
 
--- the terminal of a location in a list of sheets
-unfoldable pub terminal_in : ℕ → List Sheet → Option ℕ
-terminal_in x [] = none
-terminal_in x (s ∷ ss) = cond (eqb s.location x) s.terminal (terminal_in x ss)
-
--- the terminal that a plan gives a location; "a refused plan gives none"
-unfoldable pub terminal : Told (List Sheet) → ℕ → Option ℕ
-terminal (refusal w) x = none
-terminal (says ss) x = terminal_in x ss
-
--- "A location moves if its terminal before and after differs"
-abbrev pub Moves : Told (List Sheet) → Told (List Sheet) → ℕ → Type 0
-Moves before now x = terminal before x ≢ terminal now x
+-- no slot is active
+abbrev pub NoneActive : State → Type 0
+NoneActive s = (x : ℕ) → active s.table s.round.total x ≡ false
 
 -- "these four": key, k, the n reached and the set of active terminals
 pub record Alike (s t : State) : Type 0 where
@@ -80,7 +81,49 @@ pub record Alike (s t : State) : Type 0 where
   pub n : s.round.n ≡ t.round.n
   pub active : (x : ℕ) → active s.table s.round.total x ≡ active t.table t.round.total x
 
--- "An admit changes the sample by exactly the two locations it names, one out and one in, or not at all; the others keep ..
--- relative order", by the values that it answers
+-- ---- what moves
+
+-- the terminal of a location in a list of sheets
+unfoldable pub terminal_in : ℕ → List Sheet → Option ℕ
+terminal_in x [] = none
+terminal_in x (s ∷ ss) = cond (eqb s.location x) s.terminal (terminal_in x ss)
+
+-- the terminal that a plan gives a location; 01: "a refused plan gives none"
+unfoldable pub terminal : Told (List Sheet) → ℕ → Option ℕ
+terminal (refusal w) x = none
+terminal (says ss) x = terminal_in x ss
+
+-- 01: "A location moves if its terminal before and after differs"
+abbrev pub Moves : Told (List Sheet) → Told (List Sheet) → ℕ → Type 0
+Moves before now x = terminal before x ≢ terminal now x
+
+-- the two locations that an admit names come in and go out, or, where it names none, nothing changes
 abbrev pub SampleMoves : List ℕ → List ℕ → List ℕ → Type 0
 SampleMoves before now vs = ((vs ≡ []) × (now ≡ before)) ⊎ ((v : ℕ) × (o : ℕ) × (vs ≡ v ∷ o ∷ []) × Exchanges before now v o)
+
+-- ---- the demand
+
+pub record Demand3 : Type 0 where
+  -- "The plan, asked with lists and scratch long enough, gives at each place the location and terminal that 01's ledger defines from
+  -- key, k, the n reached and the set of active terminals alone."
+  pub planned : (s : State) (h : Reached s) (p : Told (List Sheet)) → PlanOf s p → p ≡ ledger_plan (ledger_of h)
+  -- 01: "A is the active terminals, n the n reached."
+  pub shown : (s : State) (h : Reached s) → Shown s (ledger_of h)
+  -- "It is refusal 11 exactly when none is active."
+  pub eleven : (s : State) → Reached s → (p : Told (List Sheet)) → PlanOf s p → (p ≡ refusal 11 → NoneActive s) × (NoneActive s → p ≡ refusal 11)
+  -- "Rounds so reached and alike in these four have the same plan."
+  pub same_plan : (s t : State) → Reached s → Reached t → Alike s t → (p q : Told (List Sheet)) → PlanOf s p → PlanOf t q → p ≡ q
+  -- "Every admit and join not refused answers as the ledger does."
+  pub answered : (s : State) (h : Reached s) → Agree (first_ledger h.key h.k h.n) h.calls h.answers
+  -- "Hence an accepted withdraw moves only the locations of the terminal withdrawn,"
+  pub withdrawn : (s t : State) → Reached s → (x : ℕ) (vs : List ℕ) → Made s (withdraw x) (says vs) t
+      → (p q : Told (List Sheet)) → PlanOf s p → PlanOf t q → (y : ℕ) → Moves p q y → terminal p y ≡ some x
+  -- "and an accepted join moves locations only to the joiner."
+  pub joined : (s t : State) → Reached s → (x : ℕ) → Made s join (says (x ∷ [])) t
+      → (p q : Told (List Sheet)) → PlanOf s p → PlanOf t q → (y : ℕ) → Moves p q y → terminal q y ≡ some x
+  -- "An admit changes the sample by exactly the two locations it names, one out and one in, or not at all; the others keep .. relative
+  -- order."
+  pub sampled : (s t : State) → Reached s → (vs : List ℕ) → Made s admit (says vs) t → SampleMoves (sampled s) (sampled t) vs
+  -- "the others keep terminal": only the two that it names move
+  pub kept : (s t : State) → Reached s → (vs : List ℕ) → Made s admit (says vs) t
+      → (p q : Told (List Sheet)) → PlanOf s p → PlanOf t q → (y : ℕ) → Moves p q y → has y vs ≡ true

@@ -1,13 +1,12 @@
--- Document 01, **Ledger**, sentence by sentence. No record, list or table of a round is named here.
+-- Document 01, **Ledger**, sentence by sentence. No record, list or table of a round is named here, and no answer of its calls.
 -- Assumes nothing.
-use Rattle.std.specs.Prelude.{cond, not, List, [], ◌∷◌, map, ℕ, ◌+◌, ◌-◌, eqb, length, take}
+use Rattle.std.specs.Prelude.{Bool, cond, not, List, [], ◌∷◌, map, ℕ, ◌+◌, ◌-◌, eqb, length, take}
 use Rattle.std.proofs.Math.Option.{Option, none, some, get_or}
 use Rattle.lists.specs.Told.{Told, refusal, says}
 use Rattle.lists.specs.Lists.{has, without, first_from}
 use Rattle.orders.specs.Orders.{P}
 use Rattle.orders.specs.Reservoirs.{due, kth}
 use Rattle.choosers.specs.Slots.{slot_of}
-use Rattle.rounds.specs.Plans.{Sheet, sheet}
 
 -- "the calls in order, each by name with its numbers but no memory"
 pub data Call : Type 0 where
@@ -61,6 +60,16 @@ answer g admit = in_and_out g (due_in g)
 answer g join = free_slot g ∷ []
 answer g (withdraw s) = []
 
+-- ---- the plan
+
+-- a count sheet: a location, and the terminal that holds it
+pub record Sheet : Type 0 where
+  pub location : ℕ
+  pub terminal : Option ℕ
+
+abbrev pub sheet : ℕ → Option ℕ → Sheet
+sheet x o = record { location = x; terminal = o }
+
 -- "Its plan: the first k of P(n) in order, each with its slot as defined above." From key, k, n and A alone. Demand 3: "It is
 -- refusal 11 exactly when none is active."
 unfoldable pub plan_from : ℕ → ℕ → ℕ → List ℕ → Told (List Sheet)
@@ -71,15 +80,14 @@ plan_from key k n A =
 abbrev pub ledger_plan : Ledger → Told (List Sheet)
 ledger_plan g = plan_from g.key g.k g.n g.A
 
--- ---- fed with the calls and with what was said
+-- ---- fed with the calls
 
--- "and whether it was refused; a refused one changes nothing"
-abbrev pub fed : Ledger → Call → Told (List ℕ) → Ledger
-fed g x (refusal w) = g
-fed g x (says vs) = accept g x
+-- "Fed are .. the calls in order, .. and whether it was refused; a refused one changes nothing"
+abbrev pub fed : Ledger → Call → Bool → Ledger
+fed g x refused = cond refused g (accept g x)
 
 -- the ledger after a list of calls
-unfoldable pub fed_all : Ledger → List Call → List (Told (List ℕ)) → Ledger
-fed_all g [] ws = g
+unfoldable pub fed_all : Ledger → List Call → List Bool → Ledger
+fed_all g [] rs = g
 fed_all g (x ∷ xs) [] = g
-fed_all g (x ∷ xs) (a ∷ ws) = fed_all (fed g x a) xs ws
+fed_all g (x ∷ xs) (r ∷ rs) = fed_all (fed g x r) xs rs

@@ -1,9 +1,10 @@
 pub mod Rounds
-pub mod Plans
 pub mod Ledgers
+pub mod Plans
 pub mod Histories
 pub mod Demand3
-pub mod CallsMade
+pub mod Outcomes
+pub mod Fleets
 pub mod Replays
 pub mod RefusedBy
 pub mod InnerRounds

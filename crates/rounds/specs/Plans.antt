@@ -1,7 +1,7 @@
 -- Document 01, **Round**: what plan says and leaves, on any record, list and table; and the plan as it stands in memory.
 -- Assumes nothing.
 use Rattle.std.specs.Prelude.{◌≡◌, cond, ◌||◌, List, [], ◌∷◌, map, ℕ, min, ltb, eqb, length, take, Result, Ok, Err}
-use Rattle.std.proofs.Math.Option.{Option, some, get_or}
+use Rattle.std.proofs.Math.Option.{some, get_or}
 use Rattle.lists.specs.Told.{Told, refusal, says, map_told}
 use Rattle.lists.specs.Lists.{written}
 use Rattle.answers.specs.declared.Refusal.{Refusal}
@@ -9,6 +9,7 @@ use Rattle.orders.specs.ReservoirCalls as Reservoir
 use Rattle.choosers.specs.Slots.{actives, holder, state_of}
 use Rattle.choosers.specs.SlotCalls as Slots
 use Rattle.rounds.specs.Rounds.{reservoir_of, State, fitting}
+use Rattle.rounds.specs.Ledgers.{Sheet, sheet}
 
 -- what a plan says, and the two lists after it
 pub record AfterPlan : Type 0 where
@@ -46,14 +47,6 @@ ScratchAfter (Ok u) before now = length now ≡ length before
 ScratchAfter (Err why) before now = now ≡ before
 
 -- ---- the plan as it stands in memory
-
--- a count sheet: a location, and the terminal that holds it
-pub record Sheet : Type 0 where
-  pub location : ℕ
-  pub terminal : Option ℕ
-
-abbrev pub sheet : ℕ → Option ℕ → Sheet
-sheet x o = record { location = x; terminal = o }
 
 -- place by place, a location with its terminal
 abbrev pub sheets : List ℕ → List ℕ → List Sheet

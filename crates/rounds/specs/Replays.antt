@@ -8,9 +8,9 @@ use Rattle.orders.specs.ReservoirCalls.{short_refusal}
 use Rattle.answers.specs.declared.Refusal.{Refusal}
 use Rattle.rounds.specs.declared.round.Round.{Round}
 use Rattle.rounds.specs.Rounds.{State, state, open_call}
-use Rattle.rounds.specs.Plans.{after_plan, plan_call, Sheet, shown_plan}
-use Rattle.rounds.specs.Ledgers.{Call, admit, join, withdraw, first_ledger, ledger_plan, fed_all}
-use Rattle.rounds.specs.Histories.{nothing_said, after_all, all_said}
+use Rattle.rounds.specs.Ledgers.{Call, admit, join, withdraw, first_ledger, Sheet, ledger_plan, fed_all}
+use Rattle.rounds.specs.Plans.{after_plan, plan_call, shown_plan}
+use Rattle.rounds.specs.Histories.{nothing_said, refusals, after_all, all_said}
 use Rattle.rounds.specs.Demand3.{Agree, Enough}
 
 -- ---- calls as numbers
@@ -100,7 +100,7 @@ planned_in k c ws ls ts = shown_plan k (after_plan (map_told (λ vs. tt) (read_o
 pub record ByLedger (key k n : ℕ) (calls : List Call) (bytes places : ℕ) (ws ls ts : List ℕ) : Type 0 where
   pub said : Agree (first_ledger key k n) calls (read_all (length calls) ws)
   pub planned : Enough k bytes ls ts places
-      → planned_in k (length calls) ws ls ts ≡ ledger_plan (fed_all (first_ledger key k n) calls (read_all (length calls) ws))
+      → planned_in k (length calls) ws ls ts ≡ ledger_plan (fed_all (first_ledger key k n) calls (refusals (read_all (length calls) ws)))
 
 -- where it was not refused
 abbrev pub Replayed : Result (Unit {0}) Refusal → ℕ → ℕ → ℕ → List ℕ → ℕ → ℕ → List ℕ → List ℕ → List ℕ → Type 0

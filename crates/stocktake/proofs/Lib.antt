@@ -1,1 +1,2 @@
 pub mod PieceLaws
+pub mod ProgramLaws

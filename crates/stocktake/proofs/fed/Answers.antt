@@ -1,34 +1,27 @@
 -- `stocktake::fed` meets its contract.
 -- Assumes nothing.
-use Rattle.std.proofs.Common.{◌≤◌, ◌<◌, ◌-◌, length, drop, length-take, length-drop, arith, sym, ◌∙◌}
-use borrow.Author.Tests.{eqb-false}
-use Rattle.stocktake.proofs.PieceLaws.{feed_puts, feed_takes}
-use Rattle.stocktake.proofs.fed.Given.{Over}
+use Rattle.std.proofs.Common.{◌≡◌, ◌<◌, ◌-◌, length, take, drop, length-take, length-drop, arith, sym}
+use borrow.Author.Tests.{eqb-true, eqb-false}
+use lib.Seq.{take_all}
+use Rattle.stocktake.specs.Pieces.{stands}
+use Rattle.stocktake.proofs.PieceLaws.{going_on, going_ends}
 use Rattle.stocktake.proofs.fed.Goals as goal
-use Rattle.stocktake.proofs.fed.Goals.{In-Some}
 
-pub passed-requires : goal.passed-requires
-passed-requires g c =
-    let f = c.feed-told in
-    feed_puts _ c.loop-rest.line _ c.loop-rest.out _ f.result f.new.self _ _ _ f.ensures.answer f.auto.out
+pub returns-then-is_empty-clause-written : goal.returns-then-is_empty-clause-written
+returns-then-is_empty-clause-written g c =
+    let rest = c.loop-taken.rest.now in
+    let n = c.in_ok-taken.taken in
+    let left = take (length rest - n) (drop n rest) in
+    let none : length left ≡ 0 = eqb-true (length left) 0 (sym c.if-is_empty.ensures) in
+    let now = stands c.step.new.session c.step.new.line c.step.new.memory in
+    going_ends now n c.loop-taken.invariant.1 c.in_ok-taken.ensures.written (omega (arith, none, length-take (length rest - n) (drop n rest), length-drop n rest))
 
--- something was taken, and no more than was left of the piece
-went : (g : Over) (c : In-Some g) → (0 < c.in-Some.taken) × (c.in-Some.taken ≤ length c.loop-rest.rest.now)
-went g c =
-    let l = c.loop-rest in
-    let f = c.feed-told in
-    let some : 0 < length l.rest.now = omega (arith, eqb-false (length l.rest.now) 0 (sym c.loop-rest-test.ensures)) in
-    feed_takes _ l.line _ l.out _ f.result f.new.self _ _ _ f.ensures.answer _ (sym c.in-Some.is ∙ c.in_ok-taken.ensures.taken) some
-
-pub slice_bounds-rest-count : goal.slice_bounds-rest-count
-slice_bounds-rest-count g c = omega (arith, went g c)
-
-pub slice_bounds-rest-start : goal.slice_bounds-rest-start
-slice_bounds-rest-start g c = (went g c).1
-
-pub loop-rest-smaller : goal.loop-rest-smaller
-loop-rest-smaller g c =
-    let w = went g (goal.at.loop-rest-smaller g c).In-Some in
-    let rest = c.loop-rest.rest.now in
-    let n = c.in-Some.taken in
-    omega (arith, w, length-take (length rest - n) (drop n rest), length-drop n rest)
+pub loop-taken-preserved : goal.loop-taken-preserved
+loop-taken-preserved g c =
+    let rest = c.loop-taken.rest.now in
+    let n = c.in_ok-taken.taken in
+    let left = take (length rest - n) (drop n rest) in
+    let some : 0 < length left = omega (arith, eqb-false (length left) 0 (sym c.if-is_empty.ensures)) in
+    let all : left ≡ drop n rest = take_all (length rest - n) (drop n rest) (omega (arith, length-drop n rest)) in
+    let now = stands c.step.new.session c.step.new.line c.step.new.memory in
+    (c.step.ensures.fits, going_on now n c.loop-taken.invariant.1 c.in_ok-taken.ensures.written left all some c.in_ok-taken.ensures.some)

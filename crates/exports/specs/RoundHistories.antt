@@ -1,0 +1,59 @@
+-- Demand 3 of a round that a program in C or Rust keeps in seven words: its calls are calls as demand 3 has them.
+-- Assumes nothing.
+use Rattle.std.specs.Prelude.{◌≡◌, cond, List, [], ◌∷◌, ℕ, ◌+◌, ◌*◌, ◌^◌, eqb, length, get_or}
+use Rattle.lists.specs.Told.{Told, refusal, says}
+use Rattle.rounds.specs.Rounds.{State, state}
+use Rattle.rounds.specs.Ledgers.{Call, admit, join, withdraw}
+use Rattle.rounds.specs.Histories.{Opens, AllMade}
+use Rattle.exports.specs.Crossings.{crossed}
+use Rattle.exports.specs.Rounds.{round_as, open_crossed, crossed_round, admit_crossed, join_crossed, withdraw_crossed}
+
+-- what the program keeps: the record's words, the list and the table
+pub record Lent : Type 0 where
+  pub words : List ℕ
+  pub list : List ℕ
+  pub table : List ℕ
+
+abbrev pub lent : List ℕ → List ℕ → List ℕ → Lent
+lent ws l t = record { words = ws; list = l; table = t }
+
+-- the round that stands in it
+abbrev pub round_in : Lent → State
+round_in x = state (round_as x.words) x.list x.table
+
+-- `perillajamb_round_open` answered 0 and left these words and this list, by its promise
+pub record OpenedIn (key k n : ℕ) (x : Lent) : Type 0 where
+  pub words : List ℕ
+  pub list : List ℕ
+  pub promise : crossed 0 x.words x.list ≡ open_crossed key k n list words
+
+-- On x a function was called: it answered a, and y stands after it. Each case has the promise of its function as it stands in the code.
+pub data MadeIn (x : Lent) : Call → ℕ → Lent → Type 0 where
+  admit_in : (a : ℕ) (ws l : List ℕ) → crossed_round a ws l x.table ≡ admit_crossed x.words x.list x.table → MadeIn x admit a (lent ws l x.table)
+  join_in : (a : ℕ) (ws t : List ℕ) → crossed_round a ws x.list t ≡ join_crossed x.words x.list x.table → MadeIn x join a (lent ws x.list t)
+  withdraw_in : (slot a : ℕ) (ws t : List ℕ) → crossed_round a ws x.list t ≡ withdraw_crossed x.words x.list x.table slot
+      → MadeIn x (withdraw slot) a (lent ws x.list t)
+
+-- a list of calls, each on what the one before left
+pub data AllMadeIn : Lent → List Call → List ℕ → Lent → Type 0 where
+  none_in : (x : Lent) → AllMadeIn x [] [] x
+  next_in : {x y z : Lent} {c : Call} {a : ℕ} {cs : List Call} {as' : List ℕ} → MadeIn x c a y → AllMadeIn y cs as' z → AllMadeIn x (c ∷ cs) (a ∷ as') z
+
+-- a call's answer as one number
+abbrev pub number_of : Call → Told (List ℕ) → ℕ
+number_of c (refusal w) = 2 ^ 63 + w
+number_of admit (says vs) = cond (eqb (length vs) 0) (2 ^ 63) (get_or vs 0 0 * 2 ^ 32 + get_or vs 1 0)
+number_of join (says vs) = get_or vs 0 0
+number_of (withdraw x) (says vs) = 0
+
+abbrev pub numbers_of : List Call → List (Told (List ℕ)) → List ℕ
+numbers_of [] ws = []
+numbers_of (c ∷ cs) [] = []
+numbers_of (c ∷ cs) (w ∷ ws) = number_of c w ∷ numbers_of cs ws
+
+-- The round in x is opened, the calls are calls so made, and the numbers are their answers: so all of demand 3 holds of the round in y.
+pub record RoundHistory (key k n : ℕ) (x : Lent) (calls : List Call) (numbers : List ℕ) (y : Lent) : Type 0 where
+  pub opens : Opens key k n (round_in x)
+  pub answers : List (Told (List ℕ))
+  pub made : AllMade (round_in x) calls answers (round_in y)
+  pub said : numbers ≡ numbers_of calls answers
