@@ -56,4 +56,12 @@ pub fn refusals(draws: &mut Draws) -> Option<String> {
         proved::layer_apply(layer, key, x),
         Err(Refused(12)),
     )
+    .or_else(|| {
+        let n = x.saturating_add(1);
+        differ(
+            format!("layer {layer} key {key:#x} over 0..{n}"),
+            proved::layer_xors(layer, key, n),
+            Err(Refused(12)),
+        )
+    })
 }

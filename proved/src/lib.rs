@@ -280,7 +280,7 @@ pub fn layer_apply(layer: u32, key: u64, x: u32) -> Result<u32, Refused> {
     decoded(unsafe { perillajamb_layer_apply(layer, key, x) })
 }
 
-/// The outputs of a layer at 0..n, xored.
+/// The outputs of a layer at 0..n, xored; 12 for an n above its size.
 pub fn layer_xors(layer: u32, key: u64, n: u32) -> Result<u32, Refused> {
     decoded(unsafe { perillajamb_layer_xors(layer, key, n) })
 }

@@ -22,5 +22,4 @@ pub mod ActiveLaws
 pub mod AddLaws
 pub mod RemoveLaws
 pub mod GetLaws
-pub mod Examples
 pub mod RefusedLaws

@@ -94,7 +94,11 @@ get_call m t s places =
     (cond (ltb places (min (length t) slot_limit)) (refusal 4) (or_none (holder s t m.total)))
     (refusal 12)
 
--- "the scratch is free after an accepted get .., unchanged after a refused one"; it keeps its length
+-- "the scratch is free": any numbers may stand in it, as many as before
+abbrev pub ScratchFree : List ℕ → List ℕ → Type 0
+ScratchFree before now = length now ≡ length before
+
+-- "the scratch is free after an accepted get .., unchanged after a refused one"
 abbrev pub ScratchAfter : Result ℕ Refusal → List ℕ → List ℕ → Type 0
-ScratchAfter (Ok x) before now = length now ≡ length before
+ScratchAfter (Ok x) before now = ScratchFree before now
 ScratchAfter (Err why) before now = now ≡ before

@@ -3,7 +3,7 @@ ghost use Rattle.std.specs.Prelude.{◌≡◌, min, length, take, is_ok, IfOk, I
 ghost use Rattle.choosers.specs.Slots.{state_of};
 ghost use Rattle.answers.specs.Refusals.{told, optional};
 ghost use Rattle.answers.specs.declared.Refusal.TheVariants.{Misfit};
-ghost use Rattle.choosers.specs.SlotCalls.{map_of, slot_limit, fitting, after, add_call, remove_call, len_call, is_empty_call, is_active_call, look_up, get_call, ScratchAfter};
+ghost use Rattle.choosers.specs.SlotCalls.{map_of, slot_limit, fitting, after, add_call, remove_call, len_call, is_empty_call, is_active_call, look_up, get_call, ScratchFree, ScratchAfter};
 
 use crate::{lookups, tables};
 use answers::Refusal;
@@ -24,7 +24,8 @@ pub fn location_state(key: u64, location: u32) -> u64
 // The first active slot of the choice order of `count`, of as many of its numbers as the scratch has places: `get` without its
 // tests, for many lookups after one test.
 pub fn first_active(count: u32, table: &[u8], state: u64, scratch: &mut [u64]) -> Option<u32>
-    ensures { optional result ≡ look_up count table.now state (length scratch.old) }
+    ensures answer { optional result ≡ look_up count table.now state (length scratch.old) }
+    ensures scratch { ScratchFree scratch.old scratch.new }
 {
     for k in 0..scratch.len().min(count as usize) {
         let x = lookups::next_number(state, count as u64, &mut scratch[..=k]);

@@ -2,7 +2,7 @@
 -- answer alone crosses have the library's law of the call they make.
 -- Assumes nothing.
 use mathlib.Core.Path.{◌≡◌, refl, sym, subst}
-use mathlib.Core.Bool.{Bool, true, false, cond}
+use mathlib.Core.Bool.{Bool, true, false, cond, ◌&&◌}
 use mathlib.Core.List.{List, ◌∷◌}
 use mathlib.Core.Option.{Option}
 use Prim.Native.Nat.{ℕ, ◌+◌, ◌^◌, ◌≤◌}
@@ -16,6 +16,7 @@ use Rattle.lists.specs.Refusing.{Among, Spares}
 use Rattle.lists.proofs.Tests.{by_cond}
 use Rattle.lists.proofs.Having.{has_head, has_more}
 use Rattle.lists.proofs.Spared.{has_within, spared_under}
+use Rattle.layers.specs.Layer.{size}
 use Rattle.hashes.specs.Calls.{limited}
 use Rattle.hashes.specs.Next.{low}
 use Rattle.orders.specs.declared.consistent_permutation.ConsistentPermutation.{ConsistentPermutation}
@@ -48,7 +49,7 @@ use Rattle.exports.specs.RefusedBy.{Crosses, said_else, said_by, layer_xors_refu
 
 pub layer_xors_refuses : (j key n : ℕ) → Among layer_xors_refusals (layer_xors j key n)
 unfolding layer_xors has same
-layer_xors_refuses j key n = by_cond (Among layer_xors_refusals) (leb j 14) _ _ (λ is. tt) (λ no. refl)
+layer_xors_refuses j key n = by_cond (Among layer_xors_refusals) (leb j 14 && leb n (size j)) _ _ (λ is. tt) (λ no. refl)
 
 limit_refuses : (ws : List ℕ) (n x : ℕ) → has 1 ws ≡ true → Among ws (limited n x)
 unfolding limited

@@ -14,8 +14,8 @@ use Rattle.lists.proofs.Writing.{length_written}
 use Rattle.orders.specs.ReservoirCalls.{short_refusal}
 use Rattle.rounds.specs.declared.round.Round.{Round}
 use Rattle.rounds.specs.Rounds.{State, state, AfterOpen, after_open, open_call, After, admit_call, join_call, withdraw_call}
-use Rattle.rounds.specs.Ledgers.{Call, admit, join, withdraw, Ledger, first_ledger, fed}
-use Rattle.rounds.specs.Histories.{exchanged, slot_said, nothing_said, Opens, Made, AllMade, made_none, made_next, valued, call}
+use Rattle.rounds.specs.Ledgers.{Call, admit, join, withdraw, Ledger, first_ledger, exchanged, fed}
+use Rattle.rounds.specs.Histories.{slot_said, nothing_said, Opens, Made, AllMade, made_none, made_next, valued, call}
 use Rattle.rounds.proofs.RoundLaws.{Shows, open_shows}
 use Rattle.rounds.proofs.MadeLaws.{made_step, call_made}
 use Rattle.rounds.proofs.UnchangedLaws.{refused_unchanged}

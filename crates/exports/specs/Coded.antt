@@ -1,10 +1,10 @@
 -- How answers cross to C and Rust, as one number, and what the calls that sum up many answers work out.
 -- Assumes nothing.
-use Rattle.std.specs.Prelude.{Bool, true, false, cond, List, [], ◌∷◌, ℕ, zero, suc, ◌+◌, ◌%◌, ◌^◌, leb}
+use Rattle.std.specs.Prelude.{Bool, true, false, cond, ◌&&◌, List, [], ◌∷◌, ℕ, zero, suc, ◌+◌, ◌%◌, ◌^◌, leb}
 use Rattle.std.proofs.Math.Option.{Option, get_or}
 use Rattle.std.specs.Int.Bits.{bit_xor}
 use Rattle.lists.specs.Told.{Told, refusal, says}
-use Rattle.layers.specs.Layer.{layer}
+use Rattle.layers.specs.Layer.{size, layer}
 use Rattle.hashes.specs.Hashes.{feed}
 use Rattle.hashes.specs.Next.{low}
 use Rattle.hashes.specs.Calls.{limited}
@@ -25,9 +25,9 @@ unfoldable pub xors : (ℕ → ℕ) → ℕ → ℕ
 xors f zero = 0
 xors f (suc n) = bit_xor (xors f n) (f n)
 
--- the outputs of a layer at 0..n, xored; 12 where there is no such layer
+-- The outputs of a layer at 0..n, xored. 12: "a layer above 14, or a layer's input not below its size".
 unfoldable pub layer_xors : ℕ → ℕ → ℕ → Told ℕ
-layer_xors j key n = cond (leb j 14) (says (xors (layer j key) n)) (refusal 12)
+layer_xors j key n = cond (leb j 14 && leb n (size j)) (says (xors (layer j key) n)) (refusal 12)
 
 -- ---- hashes
 

@@ -22,7 +22,7 @@ said_by c ws t = said_else 4 c ws t
 
 -- ---- numbers alone
 
--- 12: "a layer above 14"
+-- 12: "a layer above 14, or a layer's input not below its size"
 abbrev pub layer_xors_refusals : List ℕ
 layer_xors_refusals = 12 ∷ []
 

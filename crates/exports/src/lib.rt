@@ -10,10 +10,11 @@ pub mod reservoirs;
 pub mod round;
 pub mod slots;
 
-ghost use Rattle.std.specs.Prelude.{◌≡◌};
+ghost use Rattle.std.specs.Prelude.{◌≡◌, ℕ, ◌≤◌};
 ghost use Rattle.words.specs.Words.{wrapping_mul, rotate_right, mix};
 ghost use Rattle.layers.specs.Calls.{layer_apply};
-ghost use Rattle.layers.specs.KeyedLayers.{applied};
+ghost use Rattle.layers.specs.Layer.{layer};
+ghost use Rattle.layers.specs.KeyedLayers.{keyed_layer};
 ghost use Rattle.hashes.specs.Hashes.{feed};
 ghost use Rattle.hashes.specs.Next.{low};
 ghost use Rattle.hashes.specs.Calls.{limited, prev_call, next_call};
@@ -61,7 +62,7 @@ fn coded_output(said: Result<u32, Refusal>) -> u64
 
 // The xor of a layer's outputs at 0..n.
 fn xor_outputs(f: KeyedLayer, n: u32) -> u64
-    ensures { result ≡ xors (applied f) n }
+    ensures { (j key : ℕ) → j ≤ 14 → f ≡ keyed_layer j key → result ≡ xors (layer j key) n }
 {
     let mut sum: u64 = 0;
     for x in 0..n {
@@ -70,12 +71,14 @@ fn xor_outputs(f: KeyedLayer, n: u32) -> u64
     sum
 }
 
-// What one layer applied in a loop over its inputs costs.
+// What one layer applied in a loop over its inputs costs: their outputs, xored. Refusal 12 where there is no such layer or n is above
+// its size.
 pub fn perillajamb_layer_xors(layer: u32, key: u64, n: u32) -> u64
     ensures { result ≡ coded (layer_xors layer key n) }
 {
     match KeyedLayer::new(layer, key) {
-        Ok(f) => xor_outputs(f, n),
+        Ok(f) if n <= f.size => xor_outputs(f, n),
+        Ok(_) => coded_output(Err(Refusal::Misfit)),
         Err(why) => coded_output(Err(why)),
     }
 }

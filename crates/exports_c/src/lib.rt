@@ -45,7 +45,8 @@ pub extern "C" fn perillajamb_layer_apply(layer: u32, key: u64, x: u32) -> u64
     exports::perillajamb_layer_apply(layer, key, x)
 }
 
-// What one layer applied in a loop over its inputs costs.
+// What one layer applied in a loop over its inputs costs: their outputs, xored. Refusal 12 where there is no such layer or n is above
+// its size.
 #[unsafe(no_mangle)]
 pub extern "C" fn perillajamb_layer_xors(layer: u32, key: u64, n: u32) -> u64
     ensures { result ≡ coded (layer_xors layer key n) }

@@ -1,25 +1,27 @@
 -- Each walk gives every hash on its way, in order, each once, then none for ever: over all calls, not one.
 -- Assumes nothing.
-use mathlib.Core.Path.{◌≡◌, refl, sym, ap, ◌∙◌}
+use mathlib.Core.Path.{◌≡◌, refl, sym, ap, subst, ◌∙◌}
 use mathlib.Core.Bool.{true, false, true≢false}
 use mathlib.Core.List.{List, [], ◌∷◌}
 use mathlib.Core.Option.{Option, none, some}
 use Prim.Native.Nat.{ℕ, zero, suc, ◌+◌, ◌-◌, ◌^◌, ◌≤◌, ◌<◌}
 use native.Mathlib.Omega.{arith}
 use native.Mathlib.Numerals.{add-one}
-use Rattle.lists.specs.Told.{Told}
+use lib.Dec.{ltb}
+use Rattle.lists.specs.Told.{Told, says}
 use Rattle.lists.specs.Steps.{Step, answers, one_by_one}
 use Rattle.lists.specs.Lists.{keep, not_below, occurrences, from}
 use Rattle.lists.proofs.Tests.{not_below_yes, not_below_no, by_test, by_below}
 use Rattle.lists.proofs.Members.{occurrences_cons, occurrences_keep_yes, keep_passes, keep_agree, keep_none}
 use Rattle.lists.proofs.Extremes.{by_min, pick_is}
+use Rattle.lists.proofs.Tolds.{not_said, said_same}
 use Rattle.lists.proofs.Turns.{Turn, ended, gave, all_answers}
 use Rattle.hashes.specs.declared.ConsistentHashRevIterator.{ConsistentHashRevIterator}
 use Rattle.hashes.specs.declared.ConsistentHashIterator.{ConsistentHashIterator}
 use Rattle.hashes.specs.Hashes.{buckets, hashes, is_hash, prev}
-use Rattle.hashes.specs.Next.{smallest_from}
-use Rattle.hashes.specs.Calls.{prev_number}
-use Rattle.hashes.specs.Walks.{go_on_below, fall, hashes_below, go_on_above, rise, hashes_from}
+use Rattle.hashes.specs.Next.{low, smallest_from}
+use Rattle.hashes.specs.Calls.{limited, prev_number}
+use Rattle.hashes.specs.Walks.{go_on_below, fall, hashes_below, rising_from, go_on_above, rise, hashes_from}
 use Rattle.hashes.proofs.StateLaws.{buckets_within}
 use Rattle.hashes.proofs.PrevLaws.{prev_none, prev_is}
 use Rattle.hashes.proofs.LargestLaws.{hash_occurrences, no_hash_occurrences, prev_below, prev_suc_yes, prev_suc_no}
@@ -145,3 +147,11 @@ rise_turn w h = go (smallest_from w.state w.low) refl
 -- the walk from its `low` gives every hash from there up
 pub rising_walk : (k s m : ℕ) → answers rise k (record { state = s; low = m }) ≡ one_by_one k (hashes_from s m)
 rising_walk k s m = all_answers rise_turn k (record { state = s; low = m }) tt
+
+-- from `new n`: every hash from `low n` up
+pub rising_walk_new : (k n s : ℕ) (w : ConsistentHashIterator) → rising_from n s ≡ says w → answers rise k w ≡ one_by_one k (hashes_from s (low n))
+unfolding limited
+rising_walk_new k n s w e =
+    by_test (ltb (2 ^ 62) n)
+    (λ y. not_said 1 w (rw y at e))
+    (λ m. subst (λ (z : ConsistentHashIterator). answers rise k z ≡ one_by_one k (hashes_from s (low n))) (said_same (record { state = s; low = low n }) w (rw m at e)) (rising_walk k s (low n)))

@@ -1,9 +1,8 @@
 -- The answers of the two calls that may refuse, by their cases: what a caller needs of them.
 -- Assumes nothing.
-use Rattle.std.proofs.Common.{◌≡◌, ℕ, ◌<◌, ◌≤◌, ◌⊎◌, inl, inr, le-ltb, lt-ltb, le-leb}
+use Rattle.std.proofs.Common.{◌≡◌, ℕ, ◌<◌, ◌≤◌, lt-ltb, le-leb}
 use borrow.Author.Tests.{lt-leb}
 use Rattle.lists.specs.Told.{refusal, says}
-use Rattle.lists.proofs.Tests.{by_below}
 use Rattle.layers.specs.Layer.{size, layer}
 use Rattle.layers.specs.Calls.{layer_apply}
 use Rattle.layers.specs.KeyedLayers.{keyed_layer, keyed}
@@ -11,12 +10,6 @@ use Rattle.layers.specs.KeyedLayers.{keyed_layer, keyed}
 pub apply_in : (j key x : ℕ) → j ≤ 14 → x < size j → layer_apply j key x ≡ says (layer j key x)
 unfolding layer_apply
 apply_in j key x h p = rw (le-leb j 14 h, lt-ltb x (size j) p)
-
-pub apply_out : (j key x : ℕ) → (14 < j) ⊎ (size j ≤ x) → layer_apply j key x ≡ refusal 12
-unfolding layer_apply
-apply_out j key x (inl h) = rw (lt-leb j 14 h)
-apply_out j key x (inr p) =
-    by_below 14 j (λ h. rw (lt-leb j 14 h)) (λ h. rw (le-leb j 14 h, le-ltb x (size j) p))
 
 pub keyed_in : (j key : ℕ) → j ≤ 14 → keyed j key ≡ says (keyed_layer j key)
 unfolding keyed

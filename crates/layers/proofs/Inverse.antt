@@ -1,32 +1,13 @@
 -- The inverse of a layer: the rounds undone, the last first. Rounds and their inverse undo each other, by one argument
 -- over the number of rounds.
 -- Assumes nothing.
-use Rattle.std.proofs.Common.{◌≡◌, ℕ, zero, suc, ◌+◌, sym, refl, ap, ◌∙◌}
-use lib.Bits.{bit_xor}
+use Rattle.std.proofs.Common.{◌≡◌, ℕ, zero, suc, sym, refl, ap, ◌∙◌}
 use Rattle.lists.proofs.Numbers.{xor_cancel}
 use Rattle.layers.specs.declared.feistel.Halves.{Halves}
-use Rattle.layers.specs.Layer.{round_count, start, round_function, next_key, round, rounds, over}
+use Rattle.layers.specs.Layer.{round_function, next_key, round, rounds}
 use Rattle.layers.specs.InnerRounds.{Within}
+use Rattle.layers.specs.Permutations.{under, undo, back}
 use Rattle.layers.proofs.RoundLaws.{function_lt}
-
--- the halves with K set
-abbrev pub under : ℕ → Halves → Halves
-under K s = record { l = s.l; r = s.r; key = K }
-
--- one round undone: K is the key that the round had
-unfoldable pub undo : ℕ → ℕ → Halves → Halves
-undo h K s = record { l = bit_xor s.r (round_function h s.l K); r = s.l; key = K }
-
--- n rounds undone: K is the key that the first of them had, and the halves' own key is not read
-unfoldable pub back : ℕ → ℕ → ℕ → Halves → Halves
-back h zero K s = under K s
-back h (suc n) K s = undo h K (back h n (next_key h K) s)
-
--- the input of layer j that gives y
-unfoldable pub unlayer : ℕ → ℕ → ℕ → ℕ
-unlayer j key y =
-    let h = j + 1 in
-    over h (back h (round_count j) key (start h key y))
 
 -- the key after n rounds
 unfoldable pub last_key : ℕ → ℕ → ℕ → ℕ

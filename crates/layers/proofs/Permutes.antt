@@ -8,12 +8,13 @@ use Rattle.lists.specs.Lists.{keep, below, zero_to}
 use Rattle.lists.proofs.Numbers.{four_pow, four_pow_double}
 use Rattle.lists.proofs.Tests.{by_below, below_yes, below_no}
 use Rattle.lists.proofs.Keeping.{keep_same}
-use Rattle.lists.proofs.Permutations.{Permutation, inputs_below}
+use Rattle.lists.proofs.Permutations.{inputs_below}
 use Rattle.layers.specs.declared.feistel.Halves.{Halves}
 use Rattle.layers.specs.Layer.{size, round_count, start, rounds, over, layer, top_bits}
 use Rattle.layers.specs.InnerRounds.{Within}
+use Rattle.layers.specs.Permutations.{under, back, unlayer, Permutes}
 use Rattle.layers.proofs.RoundLaws.{start_within, rounds_within, over_lt}
-use Rattle.layers.proofs.Inverse.{under, back, unlayer, last_key, back_rounds, back_any, back_under, rounds_back, back_within}
+use Rattle.layers.proofs.Inverse.{last_key, back_rounds, back_any, back_under, rounds_back, back_within}
 
 -- ---- a number and its halves
 
@@ -73,7 +74,7 @@ layer_unlayer j key y p =
     ∙ over_under h (last_key h n key) s ∙ over_start h key y p
 
 -- the whole claim
-pub layer_permutes : (j key : ℕ) → Permutation (size j) (layer j key) (unlayer j key)
+pub layer_permutes : (j key : ℕ) → Permutes j key
 layer_permutes j key = record {
   stays = λ x p. layer_lt j key x;
   back_stays = λ y p. unlayer_lt j key y;

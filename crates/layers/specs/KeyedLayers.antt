@@ -1,10 +1,10 @@
 -- A layer under a key whose numbers and first round keys were worked out once, to be applied many times.
 -- Assumes nothing.
-use Rattle.std.specs.Prelude.{ℕ, ◌+◌, ◌-◌, ◌*◌, ◌/◌, ◌%◌, ◌^◌, cond, bit_or, bit_xor, nat_le}
+use Rattle.std.specs.Prelude.{◌≡◌, ℕ, ◌+◌, ◌-◌, ◌*◌, ◌/◌, ◌%◌, ◌^◌, ◌≤◌, cond, bit_or, bit_xor, nat_le}
 use Rattle.lists.specs.Told.{Told, refusal, says}
 use Rattle.layers.specs.declared.RoundKey.{RoundKey}
 use Rattle.layers.specs.declared.KeyedLayer.{KeyedLayer}
-use Rattle.layers.specs.Layer.{size, round_count, start, next_key, rounds, over}
+use Rattle.layers.specs.Layer.{size, round_count, start, next_key, rounds, over, layer}
 
 -- What a round takes of its K: what r is xored with, and w.
 abbrev pub k_xor : ℕ → ℕ
@@ -45,8 +45,8 @@ new_right h l r xor mul =
     let p = bit_xor r xor * mul in
     bit_xor l ((p % 2 ^ 32 + p / 2 ^ 32) % 2 ^ h)
 
--- What any such record gives at any x: four rounds by its own numbers, then those that are more from its key. For the
--- record of layer j that is layer j at x (proofs/KeyedLaws.antt, `keyed_layer_lem`). The half's bits count modulo 16.
+-- What any such record gives at any x: four rounds by its own numbers, then those that are more from its key. The half's bits
+-- count modulo 16.
 unfoldable pub applied : KeyedLayer → ℕ → ℕ
 applied f x =
     let h = f.half % 16 in
@@ -56,3 +56,7 @@ applied f x =
     let c = new_right h a b f.third.xor f.third.mul in
     let d = new_right h b c f.fourth.xor f.fourth.mul in
     over h (rounds h f.more (record { l = c; r = d; key = f.key }))
+
+-- "Layer j, 0 to 14": y is layer j at x, where the record is that of layer j under a key
+abbrev pub LayerAt : KeyedLayer → ℕ → ℕ → Type 0
+LayerAt f x y = (j key : ℕ) → j ≤ 14 → f ≡ keyed_layer j key → y ≡ layer j key x

@@ -7,7 +7,7 @@ mod rows;
 ghost use Rattle.std.specs.Prelude.{◌≡◌, ◌<◌};
 ghost use Rattle.answers.specs.Refusals.{told};
 ghost use Rattle.layers.specs.Calls.{layer_apply};
-ghost use Rattle.layers.specs.KeyedLayers.{round_key, keyed_layer, keyed, applied};
+ghost use Rattle.layers.specs.KeyedLayers.{round_key, keyed_layer, keyed, applied, LayerAt};
 
 use answers::Refusal;
 use feistel::{HalfBits, Halves};
@@ -81,9 +81,10 @@ impl KeyedLayer {
         Ok(keyed_of(layer as usize, key))
     }
 
-    // The layer at x, which counts modulo the size.
+    // The layer at x, which counts modulo the size: of the record of layer j, layer j at x; of any other, what its numbers give.
     pub fn apply(self, x: u32) -> u32
-        ensures { result ≡ applied self x }
+        ensures any { result ≡ applied self x }
+        ensures layer { LayerAt self x result }
     {
         let half = HalfBits::new(self.half % 16);
         let s = half.start(self.key, x);

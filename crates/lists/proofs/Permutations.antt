@@ -7,16 +7,10 @@ use Prim.Native.Nat.{ℕ, zero, suc, ◌+◌, ◌≤◌, ◌<◌}
 use native.Mathlib.Omega.{arith}
 use lib.ListN.{length}
 use Rattle.lists.specs.Lists.{keep, below, occurrences, from, zero_to}
+use Rattle.lists.specs.Permutations.{Permutation}
 use Rattle.lists.proofs.Tests.{below_yes, same_yes, same_no, by_same}
 use Rattle.lists.proofs.Keeping.{All, keep_map}
 use Rattle.lists.proofs.Counting.{Order, order_of_lem}
-
--- f maps 0..N to itself, and g undoes it, on both sides
-pub record Permutation (N : ℕ) (f g : ℕ → ℕ) : Type 0 where
-  pub stays : (x : ℕ) → x < N → f x < N
-  pub back_stays : (y : ℕ) → y < N → g y < N
-  pub undo : (x : ℕ) → x < N → g (f x) ≡ x
-  pub redo : (y : ℕ) → y < N → f (g y) ≡ y
 
 pub injective : {N : ℕ} {f g : ℕ → ℕ} → Permutation N f g → (x y : ℕ) → x < N → y < N → f x ≡ f y → x ≡ y
 injective {g = g} p x y hx hy e = sym (p.undo x hx) ∙ ap g e ∙ p.undo y hy

@@ -19,9 +19,6 @@ use Rattle.lists.proofs.Members.{occurrences_head, occurrences_tail, occurrences
 pub occurrences_both : (v x : ℕ) {a b : ℕ} → a ≤ b → more (same v x) a ≤ more (same v x) b
 occurrences_both v x {a} {b} h = by_test (same v x) (λ y. rw y (suc-le-suc h)) (λ y. rw y h)
 
-pub occurrences_rest : (v x : ℕ) (xs : List ℕ) → occurrences v xs ≤ occurrences v (x ∷ xs)
-occurrences_rest v x xs = by_test (same v x) (λ y. rw y (omega arith)) (λ y. rw y (omega arith))
-
 pub occurrences_take : (v k : ℕ) (xs : List ℕ) → occurrences v (take k xs) ≤ occurrences v xs
 occurrences_take v k [] = rw (take-nil {A = ℕ} k) (omega arith)
 occurrences_take v zero (x ∷ xs) = zero-le

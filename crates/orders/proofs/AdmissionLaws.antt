@@ -22,47 +22,16 @@ use Rattle.lists.proofs.Exchanges.{Least}
 use Rattle.lists.proofs.Searching.{by_first}
 use Rattle.orders.specs.declared.consistent_reservoir.ConsistentReservoir.{ConsistentReservoir}
 use Rattle.orders.specs.Orders.{P}
-use Rattle.orders.specs.Reservoirs.{incoming, outputs, up_to_zeros, grown, wider, held, due, kth}
+use Rattle.orders.specs.Reservoirs.{incoming, outputs, up_to_zeros, grown, wider, due, kth, in_and_out, n_after}
 use Rattle.orders.specs.ReservoirCalls.{key_of, j_of, listed, sample, fitting, reservoir_of, After, after, refused, exchange_by, exchange, admit_at, admit_call}
+use Rattle.orders.specs.Admissions.{ChangesBy, Kept, ends_at, Short, Admits}
 use Rattle.orders.proofs.LogLaws.{pow_up}
 use Rattle.orders.proofs.OrderLaws.{zero_top_lem, low_outputs}
 use Rattle.orders.proofs.HeldLaws.{held_at, inputs_at, Comes, comes, waits, held_long, grow_through, grow_to_lem, grow_none}
 use Rattle.orders.proofs.DueLaws.{due_some, due_none, due_next, next_exchange}
-use Rattle.orders.proofs.ReservoirLaws.{Kept, held_place, written_kept, sample_is, fitting_kept, list_at, used_is}
+use Rattle.orders.proofs.ReservoirLaws.{held_place, written_kept, sample_is, fitting_kept, list_at, used_is}
 
 -- ---- an exchange
-
--- "in is v, out the k-th of P(n)"; "With no such v: none."
-abbrev pub in_out : ℕ → ℕ → ℕ → Option ℕ → Option (ℕ × ℕ)
-in_out key k n none = none
-in_out key k n (some v) = some (v, kth key k n)
-
--- "n becomes v+1"
-abbrev pub reached_by : ℕ → Option ℕ → ℕ
-reached_by n none = n
-reached_by n (some v) = suc v
-
--- what an accepted admit says and leaves, by the number that is due
-pub record Admits (r : ConsistentReservoir) (a : After (Option (ℕ × ℕ))) : Type 0 where
-  pub told_is : a.told ≡ says (in_out (key_of r) r.k r.n (due (key_of r) r.k r.n))
-  pub key_is : key_of a.reservoir ≡ key_of r
-  pub k_is : a.reservoir.k ≡ r.k
-  pub n_is : a.reservoir.n ≡ reached_by r.n (due (key_of r) r.k r.n)
-  pub kept : Kept a.reservoir a.list
-
--- the layer that an admit ends at, none where there is no such layer
-abbrev pub ends_at : ConsistentReservoir → Option ℕ
-ends_at r = cond (ltb r.k r.used) (some (j_of r)) (wider (key_of r) r.k (j_of r))
-
--- refusal 4: a number v is due, and the list is shorter than what would stand after it came in, at the layer that the admit ends at
-pub record Short (r : ConsistentReservoir) (l : List ℕ) (a : After (Option (ℕ × ℕ))) : Type 0 where
-  pub v : ℕ
-  pub j : ℕ
-  pub is_due : due (key_of r) r.k r.n ≡ some v
-  pub j_le : j ≤ 14
-  pub ends_at_lem : ends_at r ≡ some j
-  pub short : length l < length (held (key_of r) j r.k (suc v))
-  pub is_refused : a ≡ refused 4 r l
 
 module _ (r : ConsistentReservoir) (l : List ℕ) (k0 : 0 < r.k) (k_le : r.k ≤ r.n) (i : ℕ) (n_le : r.n ≤ 4 ^ suc i) (i-le : i ≤ 14) (at : ends_at r ≡ some i) where
   -- an exchange by v, after which u places stand
@@ -84,8 +53,8 @@ module _ (r : ConsistentReservoir) (l : List ℕ) (k0 : 0 < r.k) (k_le : r.k ≤
       j = i;
       is_due = v_due;
       j_le = i-le;
-      ends_at_lem = at;
-      short = omega (arith, end_length, ap length c.list, ap length (held_place (key_of r) i r.k (suc v) i-le));
+      at_layer = at;
+      short = rw (add-one v) (omega (arith, end_length, ap length c.list, ap length (held_place (key_of r) i r.k (suc v) i-le)));
       is_refused = by_v ∙ rw (lt-ltb (length l) _ h);
     }
 
@@ -101,7 +70,7 @@ module _ (r : ConsistentReservoir) (l : List ℕ) (k0 : 0 < r.k) (k_le : r.k ≤
           told_is = rw v_due (ap (λ (x : ℕ). says (some (v, x))) c.out);
           key_is = refl;
           k_is = refl;
-          n_is = rw v_due (add-one v);
+          n_is = rw v_due refl;
           kept = written_kept (key_of r) r.k (v + 1) i u (take u xs) l k0 (omega (arith, c.next.large)) s i-le (sym end_length) t;
         })
 
@@ -225,9 +194,16 @@ admit_kept r l s =
 
 -- an admit that brings in v exchanges just the two that it names; the others keep their order
 pub admit_exchange : (r : ConsistentReservoir) (l : List ℕ) → Kept r l → (r' : ConsistentReservoir) (l' : List ℕ) → Kept r' l' → key_of r' ≡ key_of r → r'.k ≡ r.k
-    → (v : ℕ) → due (key_of r) r.k r.n ≡ some v → r'.n ≡ suc v → Exchanges (sample r l) (sample r' l') v (kth (key_of r) r.k r.n)
+    → (v : ℕ) → due (key_of r) r.k r.n ≡ some v → r'.n ≡ v + 1 → Exchanges (sample r l) (sample r' l') v (kth (key_of r) r.k r.n)
 admit_exchange r l s r' l' s' ekey ek v d en =
     let before : sample r l ≡ take r.k (P (key_of r) r.n) = sample_is r l s in
-    let now : sample r' l' ≡ take r.k (P (key_of r) (suc v)) = sample_is r' l' s' ∙ (λ i. take (ek i) (P (ekey i) (en i))) in
+    let now : sample r' l' ≡ take r.k (P (key_of r) (suc v)) = sample_is r' l' s' ∙ (λ i. take (ek i) (P (ekey i) ((en ∙ add-one v) i))) in
     let x = due_next (key_of r) r.k r.n v d in
     rw (before, now) (next_exchange (key_of r) r.k r.n v s.some_k s.k_le x.1 x.0)
+
+-- by what is due: with none the sample stays
+pub admit_changes : (r : ConsistentReservoir) (l : List ℕ) → Kept r l → (r' : ConsistentReservoir) (l' : List ℕ) → Kept r' l' → key_of r' ≡ key_of r → r'.k ≡ r.k
+    → (o : Option ℕ) → due (key_of r) r.k r.n ≡ o → r'.n ≡ n_after r.n o → ChangesBy (sample r l) (sample r' l') (in_and_out (key_of r) r.k r.n o)
+admit_changes r l s r' l' s' ekey ek none d en =
+    sample_is r' l' s' ∙ (λ i. take (ek i) (P (ekey i) (en i))) ∙ sym (sample_is r l s)
+admit_changes r l s r' l' s' ekey ek (some v) d en = admit_exchange r l s r' l' s' ekey ek v d en

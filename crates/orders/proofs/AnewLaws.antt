@@ -7,6 +7,7 @@ use mathlib.Core.Logic.{◌⊎◌, inl, inr, ⊎_elim}
 use mathlib.Core.List.{List}
 use mathlib.Core.Option.{Option, none, some}
 use Prim.Native.Nat.{ℕ, suc, ◌+◌, ◌-◌, ◌^◌, ◌≤◌, ◌<◌}
+use native.Mathlib.Numerals.{add-one}
 use native.Mathlib.Omega.{arith}
 use borrow.Author.Tests.{lt-ltb, le-ltb, ltb-true}
 use lib.Dec.{ltb}
@@ -19,13 +20,14 @@ use Rattle.lists.proofs.Replacing.{replace_length}
 use Rattle.lists.proofs.Searching.{by_first}
 use Rattle.orders.specs.declared.consistent_reservoir.ConsistentReservoir.{ConsistentReservoir}
 use Rattle.orders.specs.Orders.{layer_of}
-use Rattle.orders.specs.Reservoirs.{opening, outputs, up_to_zeros, grown, wider, held, due, kth}
+use Rattle.orders.specs.Reservoirs.{opening, outputs, up_to_zeros, grown, wider, held, due, kth, in_and_out}
 use Rattle.orders.specs.ReservoirCalls.{key_of, j_of, listed, reservoir_of, After, after, refused, exchange_by, exchange, admit_at, admit_call}
+use Rattle.orders.specs.Admissions.{Kept, Opened, ends_at, Short, Admits}
 use Rattle.orders.proofs.LogLaws.{pow_up, layer_fits, layer_least, layer_in}
 use Rattle.orders.proofs.HeldLaws.{held_at, Comes, comes, waits, grow_none}
 use Rattle.orders.proofs.DueLaws.{due_some, due_next, some_is, none_not}
-use Rattle.orders.proofs.ReservoirLaws.{Kept, held_place, fitting_kept, list_at, used_is, opening_held, n_in, Opens}
-use Rattle.orders.proofs.AdmissionLaws.{in_out, ends_at, Short, Admits, admit_kept, zeros_at, grown_at, k_listed, just_k, grown_held}
+use Rattle.orders.proofs.ReservoirLaws.{held_place, fitting_kept, list_at, used_is, opening_held, n_in}
+use Rattle.orders.proofs.AdmissionLaws.{admit_kept, zeros_at, grown_at, k_listed, just_k, grown_held}
 use Rattle.orders.proofs.MemoryLaws.{admit_length}
 
 -- b: an admit said none
@@ -189,12 +191,12 @@ module _ (r : ConsistentReservoir) (l : List ℕ) (s : Kept r l) (b : Bool) (now
         absurd (none_not_pair (v, kth (key_of r) r.k r.n)
         (said_same none (some (v, kth (key_of r) r.k r.n)) (sym (ap (λ (z : After (Option (ℕ × ℕ))). z.told) q) ∙ h.told_is ∙ rw d refl)))
     layer_now h (some i) e (inl q) =
-        not_said 4 (in_out (key_of r) r.k r.n (due (key_of r) r.k r.n)) (sym (ap (λ (z : After (Option (ℕ × ℕ))). z.told) q) ∙ h.told_is)
+        not_said 4 (in_and_out (key_of r) r.k r.n (due (key_of r) r.k r.n)) (sym (ap (λ (z : After (Option (ℕ × ℕ))). z.told) q) ∙ h.told_is)
     layer_now h (some i) e (inr q) = q.0 ∙ ends_layer r l s b now v d i e
 
     lists_now : Admits r a → Anew a.reservoir a.list false
     lists_now h =
-        let n : a.reservoir.n ≡ suc v = h.n_is ∙ rw d refl in
+        let n : a.reservoir.n ≡ suc v = h.n_is ∙ rw d (add-one v) in
         let j : j_of a.reservoir ≡ layer_of (suc v) = layer_now h (ends_at r) refl (admit_at_layer r l s) in
         record {
           listed_is =
@@ -209,7 +211,7 @@ module _ (r : ConsistentReservoir) (l : List ℕ) (s : Kept r l) (b : Bool) (now
     -- how many it lists then
     long_now : Admits r a → length (opening (key_of r) r.k (suc v)) ≤ length l
     long_now h =
-        let n : a.reservoir.n ≡ suc v = h.n_is ∙ rw d refl in
+        let n : a.reservoir.n ≡ suc v = h.n_is ∙ rw d (add-one v) in
         let e : listed a.reservoir a.list ≡ opening (key_of r) r.k (suc v) = (lists_now h).listed_is ∙ (λ i. opening (h.key_is i) (h.k_is i) (n i)) in
         omega (arith, ap length e, used_is a.reservoir a.list h.kept, h.kept.used_le, admit_length r l)
 
@@ -218,9 +220,9 @@ module _ (r : ConsistentReservoir) (l : List ℕ) (s : Kept r l) (b : Bool) (now
         ⊎_elim
         (λ (h : Short r l a).
         let w : h.v ≡ v = some_is h.v v (sym h.is_due ∙ d) in
-        let i : h.j ≡ layer_of (suc v) = ends_layer r l s b now v d h.j h.ends_at_lem in
-        let e : held (key_of r) h.j r.k (suc h.v) ≡ opening (key_of r) r.k (suc v) =
-        (λ t. held (key_of r) (i t) r.k (suc (w t))) ∙ held_opening (key_of r) r.k (suc v) v_small in
+        let i : h.j ≡ layer_of (suc v) = ends_layer r l s b now v d h.j h.at_layer in
+        let e : held (key_of r) h.j r.k (h.v + 1) ≡ opening (key_of r) r.k (suc v) =
+        (λ t. held (key_of r) (i t) r.k ((ap (λ (u : ℕ). u + 1) w ∙ add-one v) t)) ∙ held_opening (key_of r) r.k (suc v) v_small in
         finds_short v d (omega (arith, h.short, ap length e)) h.is_refused)
         (λ (h : Admits r a). brings_in v d (long_now h) (not_yet b now.none_due) h (lists_now h))
         (admit_kept r l s)
@@ -234,7 +236,7 @@ pub admit_anew : (r : ConsistentReservoir) (l : List ℕ) → Kept r l → (b : 
 admit_anew r l s b now = admit_by r l s b now (due (key_of r) r.k r.n) refl
 
 -- an accepted open begins so
-pub open_anew : (key k n : ℕ) (r : ConsistentReservoir) (l : List ℕ) → Opens key k n r l → Anew r l false
+pub open_anew : (key k n : ℕ) (r : ConsistentReservoir) (l : List ℕ) → Opened key k n r l → Anew r l false
 open_anew key k n r l o =
     let j : j_of r ≡ layer_of r.n = o.layer_is ∙ ap layer_of (sym o.n_is) in
     record {

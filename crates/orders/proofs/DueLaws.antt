@@ -7,10 +7,11 @@ use mathlib.Core.List.{List, [], ◌∷◌, ◌++◌, append-nil}
 use mathlib.Core.Option.{none, some}
 use Prim.Native.Nat.{ℕ, suc, ◌+◌, ◌-◌, ◌^◌, ◌≤◌, ◌<◌}
 use native.Mathlib.Nat.{le_refl}
+use native.Mathlib.Numerals.{add-one}
 use native.Mathlib.Omega.{arith}
 use lib.ListN.{length, take, get_or}
 use lib.Seq.{take-suc, length-take-le}
-use Rattle.lists.specs.Lists.{keep, below, occurrences, has, without, other, Exchanges}
+use Rattle.lists.specs.Lists.{keep, below, occurrences, without, other, Exchanges}
 use Rattle.lists.proofs.Tests.{below_yes, below_no, same_yes, by_below, by_same}
 use Rattle.lists.proofs.Counting.{order_none, order_occurrences}
 use Rattle.lists.proofs.Members.{has_yes, has_no, has→occurrences, occurrences_append, occurrences_keep_yes, keep_agree, keep_append}
@@ -18,24 +19,37 @@ use Rattle.lists.proofs.Prefixes.{occurrences_take, occurrences_first, keep_take
 use Rattle.lists.proofs.Searching.{first_some, first_none, by_first}
 use Rattle.lists.proofs.Without.{other_yes, other_no, without_length, without_none}
 use Rattle.orders.specs.Orders.{P}
-use Rattle.orders.specs.Reservoirs.{due, kth}
+use Rattle.orders.specs.Reservoirs.{among, due, kth}
+use Rattle.orders.specs.Admissions.{Due, DueIs}
 use Rattle.orders.proofs.OrderLaws.{P_part, P_order, P_length}
 use Rattle.orders.proofs.HeldLaws.{Enters, Next}
 
 -- ---- the search
 
-enters_no : (key k u : ℕ) → (Enters key k u → ⊥) → has u (take k (P key (suc u))) ≡ false
-enters_no key k u h = has_no u (take k (P key (suc u))) (by_below 0 (occurrences u (take k (P key (suc u)))) (λ a. absurd (h a)) (λ a. omega arith))
+enters_no : (key k u : ℕ) → (Enters key k u → ⊥) → among key k u ≡ false
+enters_no key k u h =
+    rw (add-one u) (has_no u (take k (P key (suc u))) (by_below 0 (occurrences u (take k (P key (suc u)))) (λ a. absurd (h a)) (λ a. omega arith)))
+
+enters_yes : (key k u : ℕ) → Enters key k u → among key k u ≡ true
+enters_yes key k u h = rw (add-one u) (has_yes u (take k (P key (suc u))) h)
 
 pub due_some : (key k n v : ℕ) → Next key k n v → v < 2 ^ 30 → due key k n ≡ some v
 unfolding due
 due_some key k n v x h =
-    first_some (λ u. has u (take k (P key (suc u)))) v n (2 ^ 30 - n) x.large (omega (arith, x.large)) (has_yes v (take k (P key (suc v))) x.enters)
+    first_some (among key k) v n (2 ^ 30 - n) x.large (omega (arith, x.large)) (enters_yes key k v x.enters)
     (λ u a b. enters_no key k u (x.first u a b))
 
 pub due_none : (key k n : ℕ) → ((u : ℕ) → n ≤ u → u < 2 ^ 30 → Enters key k u → ⊥) → due key k n ≡ none
 unfolding due
-due_none key k n f = first_none (λ u. has u (take k (P key (suc u)))) n (2 ^ 30 - n) (λ u a b. enters_no key k u (f u a (omega arith)))
+due_none key k n f = first_none (among key k) n (2 ^ 30 - n) (λ u a b. enters_no key k u (f u a (omega arith)))
+
+-- what the search finds is due, and where it finds none, none is
+pub due_holds : (key k n : ℕ) → DueIs key k n (due key k n)
+unfolding due
+due_holds key k n =
+    by_first (among key k) n (2 ^ 30 - n)
+    (λ i f a b y z. subst (DueIs key k n) (sym f) (record { from_n = a; limit = omega arith; among_first = y; smallest = z }))
+    (λ f z. subst (DueIs key k n) (sym f) (λ u a b. z u a (omega arith)))
 
 pub some_is : (i v : ℕ) → some i ≡ some v → i ≡ v
 some_is i v e = cc
@@ -43,28 +57,17 @@ some_is i v e = cc
 pub none_not : (v : ℕ) → none ≡ some v → ⊥
 none_not v e = let z : true ≡ false = cc in true≢false z
 
--- what is due is below 2^30, and is the smallest that is among the first k
+-- by how often it stands there
 pub due_next : (key k n v : ℕ) → due key k n ≡ some v → (v < 2 ^ 30) × Next key k n v
-unfolding due
 due_next key k n v e =
-    by_first (λ u. has u (take k (P key (suc u)))) n (2 ^ 30 - n)
-    (λ i f a b y z. subst (λ (w : ℕ). (w < 2 ^ 30) × Next key k n w) (some_is i v (sym f ∙ e)) (
-      omega arith,
+    let d : Due key k n v = subst (DueIs key k n) e (due_holds key k n) in (
+      d.limit,
       record {
-        large = a;
-        enters = has→occurrences i (take k (P key (suc i))) y;
-        first = λ u c d h. true≢false (sym (has_yes u (take k (P key (suc u))) h) ∙ z u c d);
+        large = d.from_n;
+        enters = has→occurrences v (take k (P key (suc v))) (rw (add-one v) at d.among_first);
+        first = λ u a b h. true≢false (sym (enters_yes key k u h) ∙ d.smallest u a b);
       },
-    ))
-    (λ f z. absurd (none_not v (sym f ∙ e)))
-
--- where none is due, no v from n up below 2^30 is among the first k of P(v+1)
-pub due_never : (key k n : ℕ) → due key k n ≡ none → (u : ℕ) → n ≤ u → u < 2 ^ 30 → Enters key k u → ⊥
-unfolding due
-due_never key k n e u a b h =
-    by_first (λ w. has w (take k (P key (suc w)))) n (2 ^ 30 - n)
-    (λ i f c d y z. none_not i (sym e ∙ f))
-    (λ f z. true≢false (sym (has_yes u (take k (P key (suc u))) h) ∙ z u a (omega arith)))
+    )
 
 -- ---- the first k of P(n) and of a later order
 

@@ -9,18 +9,18 @@ use native.Mathlib.Numerals.{add-one}
 use native.Mathlib.Omega.{arith}
 use lib.Dec.{ltb}
 use lib.ListN.{length, take, drop, get_or, length-take}
-use lib.Seq.{take-take, take-length, get_or-take}
+use lib.Seq.{take-take, take-length, length-take-le, get_or-take}
 use Rattle.lists.specs.Lists.{keep, below, not_below, count_below, every, up_to, replace, standing, last, written}
 use Rattle.lists.proofs.Tests.{below_yes, below_no, below→lt, not_below→le, not_below_yes, not_below_no, by_test, by_below}
-use Rattle.lists.proofs.Keeping.{All, all_drop, all_at, every_all}
+use Rattle.lists.proofs.Keeping.{All, Stronger, below_below, keep_keep, all_stronger, all_drop, all_at, every_all}
 use Rattle.lists.proofs.Counting.{order_all}
 use Rattle.lists.proofs.Prefixes.{keep_snoc_yes, up_to_take, up_to_count, all_up_to, Ends, up_to_ends, ends_length, ends_front, ends_end}
-use Rattle.lists.proofs.Replacing.{replace_length, replace_at, replace_take, replace_front}
+use Rattle.lists.proofs.Replacing.{replace_length, replace_at, replace_take, replace_front, replace_keep}
 use Rattle.lists.proofs.Standing.{standing_same}
 use Rattle.layers.specs.Layer.{size, layer}
 use Rattle.orders.specs.declared.consistent_reservoir.ConsistentReservoir.{ConsistentReservoir}
 use Rattle.orders.specs.Reservoirs.{outputs, grown, incoming}
-use Rattle.orders.specs.ReservoirCalls.{key_of, j_of, listed}
+use Rattle.orders.specs.ReservoirCalls.{key_of, j_of, listed, sample}
 use Rattle.orders.specs.InnerPasses.{outs, low_of, rank_of, laid_of}
 use Rattle.orders.proofs.LogLaws.{size_suc, size_in, pow_up}
 use Rattle.orders.proofs.OrderLaws.{outputs_order, low_outputs}
@@ -134,6 +134,17 @@ module _ (r : ConsistentReservoir) (i : ℕ) (l : List ℕ) (s : Fits r l) (full
 
   pub grow_length : length (grown (key_of r) i r.k (listed r l)) ≡ length (reached (key_of r) i r.k)
   grow_length = ap length new_is ∙ replace_length (below (4 ^ i)) (reached (key_of r) i r.k) (listed r l)
+
+  -- the numbers below n are the old ones
+  pub grow_sample : keep (below r.n) (grown (key_of r) i r.k (listed r l)) ≡ sample r l
+  unfolding sample
+  grow_sample =
+      let p : Stronger (below r.n) (below (4 ^ i)) = below_below n_quarter in
+      let e : length (listed r l) ≡ count_below (4 ^ i) (reached (key_of r) i r.k) =
+      omega (arith, used_some r l s, length-take-le r.used l s.shape.used_le, reached_count (key_of r) i r.k k_quarter) in
+      sym (keep_keep (below r.n) (below (4 ^ i)) p (grown (key_of r) i r.k (listed r l)))
+      ∙ ap (λ (z : List ℕ). keep (below r.n) (keep (below (4 ^ i)) z)) new_is
+      ∙ ap (keep (below r.n)) (replace_keep (below (4 ^ i)) (reached (key_of r) i r.k) (listed r l) (all_stronger (below r.n) (below (4 ^ i)) p (listed r l) olds) e)
 
   -- the smallest fresh output comes in
   pub grow_low : r.k < length (reached (key_of r) i r.k) → incoming r.n (grown (key_of r) i r.k (listed r l)) ≡ low_of (4 ^ i) (reached (key_of r) i r.k)

@@ -22,7 +22,6 @@ pub mod OrderWalks
 pub mod CounterLaws
 pub mod DescentLaws
 pub mod NextLaws
-pub mod Examples
 pub mod MemoryLaws
 pub mod RefusedLaws
 pub mod AnewLaws

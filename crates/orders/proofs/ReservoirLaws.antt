@@ -21,6 +21,7 @@ use Rattle.orders.specs.declared.consistent_reservoir.ConsistentReservoir.{Consi
 use Rattle.orders.specs.Orders.{layer_of, P}
 use Rattle.orders.specs.Reservoirs.{opening, held}
 use Rattle.orders.specs.ReservoirCalls.{key_of, j_of, listed, sample, fitting, AfterOpen, after_open, reservoir_of, open_call}
+use Rattle.orders.specs.Admissions.{Kept, Opened}
 use Rattle.orders.specs.InnerPasses.{place}
 use Rattle.orders.proofs.LogLaws.{size_suc, layer_fits, layer_in, pow_up}
 use Rattle.orders.proofs.OrderLaws.{place_order, whole_place, P_size}
@@ -28,20 +29,12 @@ use Rattle.orders.proofs.HeldLaws.{held_at, held_count, held_sample}
 
 -- ---- what is kept from call to call
 
-pub record Kept (r : ConsistentReservoir) (l : List ℕ) : Type 0 where
-  pub some_k : 0 < r.k
-  pub k_le : r.k ≤ r.n
-  pub n_le : r.n ≤ 4 ^ suc (j_of r)
-  pub j_le : j_of r ≤ 14
-  pub used_le : r.used ≤ length l
-  pub list_is : listed r l ≡ held (key_of r) (j_of r) r.k r.n
-
 pub held_place : (key j k n : ℕ) → j ≤ 14 → held key j k n ≡ held_at key (suc j) k n
 unfolding held
 held_place key j k n h = ap (up_to (below n) k) (whole_place key j h)
 
 -- xs written over a list
-written_take : (xs l : List ℕ) → take (length xs) (written xs l) ≡ xs
+pub written_take : (xs l : List ℕ) → take (length xs) (written xs l) ≡ xs
 unfolding written
 written_take xs l = take_at xs (drop (length xs) l) (length xs) refl
 
@@ -119,14 +112,6 @@ module _ (r : ConsistentReservoir) (l : List ℕ) (s : Kept r l) where
 
 -- ---- open
 
--- an accepted open: its key, k and n, and a list as it must be
-pub record Opens (key k n : ℕ) (r : ConsistentReservoir) (l : List ℕ) : Type 0 where
-  pub key_is : key_of r ≡ key
-  pub k_is : r.k ≡ k
-  pub n_is : r.n ≡ n
-  pub layer_is : j_of r ≡ layer_of n
-  pub kept : Kept r l
-
 pub opening_held : (key k n : ℕ) → n ≤ 2 ^ 30 → opening key k n ≡ held_at key (suc (layer_of n)) k n
 unfolding opening
 opening_held key k n h =
@@ -134,7 +119,7 @@ opening_held key k n h =
 
 -- any property of what an open says and leaves, by cases: a refusal leaves the list
 pub open_kept : (Q : AfterOpen → Type 0) (k n key : ℕ) (l : List ℕ) → ((c : ℕ) → Q (after_open (refusal c) l))
-    → ((r : ConsistentReservoir) (l' : List ℕ) → Opens key k n r l' → Q (after_open (says r) l')) → Q (open_call k n key l)
+    → ((r : ConsistentReservoir) (l' : List ℕ) → Opened key k n r l' → Q (after_open (says r) l')) → Q (open_call k n key l)
 unfolding open_call
 open_kept Q k n key l out in' =
     by_test (ltb (2 ^ 30) n)

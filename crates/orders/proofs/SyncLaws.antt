@@ -2,7 +2,7 @@
 -- meets a counter at its size.
 -- Assumes nothing.
 use mathlib.Core.Path.{◌≡◌, refl, sym, ap, ◌∙◌}
-use mathlib.Core.Bool.{Bool, true, false, ◌||◌}
+use mathlib.Core.Bool.{true, false}
 use mathlib.Core.List.{List, [], ◌∷◌, ◌++◌}
 use Prim.Native.Nat.{ℕ, zero, suc, ◌+◌, ◌^◌, ◌≤◌, ◌<◌}
 use native.Mathlib.Nat.{zero-add}
@@ -85,9 +85,6 @@ next_above key (suc j) i cs h =
 pub record Goes (key j a : ℕ) (cs : List ℕ) : Type 0 where
   pub meets_none : meets key j cs ≡ false
   pub synced : Synced key j (next_number key j cs).counters (suc a)
-
-descent_no : (b c : Bool) → b ≡ false → c ≡ false → (b || c) ≡ false
-descent_no b c e f = rw (e, f)
 
 pub goes : (key j a : ℕ) (cs : List ℕ) → Synced key j cs a → a < 4 ^ suc j → j < length cs → Goes key j a cs
 unfolding counted output

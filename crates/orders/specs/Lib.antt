@@ -4,5 +4,6 @@ pub mod OrderCalls
 pub mod ReservoirCalls
 pub mod RefusedBy
 pub mod Histories
+pub mod Admissions
 pub mod InnerPasses
 pub mod InnerCounters

@@ -1,9 +1,9 @@
 -- Document 01, "A plan call, followed downwards", **Reservoir**, sentence by sentence: what a reservoir lists, and how that
 -- changes. The calls stand in ReservoirCalls.antt.
 -- Assumes nothing.
-use Rattle.std.specs.Prelude.{Bool, List, map, ℕ, suc, ◌-◌, ◌^◌, ltb, length, take, get_or}
+use Rattle.std.specs.Prelude.{Bool, List, map, ℕ, suc, ◌+◌, ◌-◌, ◌^◌, ltb, length, take, get_or}
 use Rattle.std.proofs.Math.Option
-use Rattle.std.proofs.Math.Option.{Option}
+use Rattle.std.proofs.Math.Option.{Option, none, some}
 use Rattle.lists.specs.Lists.{keep, below, not_below, has, zero_to, smallest, up_to, replace, first_from}
 use Rattle.layers.specs.Layer.{size, layer}
 use Rattle.orders.specs.Orders.{layer_of, zero_top, whole, P}
@@ -46,10 +46,24 @@ wider key k j = first_from (λ i. ltb k (L key i k)) (suc j) (14 - j)
 unfoldable pub held : ℕ → ℕ → ℕ → ℕ → List ℕ
 held key j k n = up_to (counts n) k (whole key j)
 
+-- v "is among the first k of P(v+1)"
+abbrev pub among : ℕ → ℕ → ℕ → Bool
+among key k v = has v (take k (P key (v + 1)))
+
 -- "the smallest v from n up that is among the first k of P(v+1)", below 2^30
 unfoldable pub due : ℕ → ℕ → ℕ → Option ℕ
-due key k n = first_from (λ v. has v (take k (P key (suc v)))) n (2 ^ 30 - n)
+due key k n = first_from (among key k) n (2 ^ 30 - n)
 
 -- "the k-th of P(n)"
 unfoldable pub kth : ℕ → ℕ → ℕ → ℕ
 kth key k n = get_or (P key n) (k - 1) 0
+
+-- what an admit says, by the number that is due: "in is v, out the k-th of P(n)"; "With no such v: none."
+abbrev pub in_and_out : ℕ → ℕ → ℕ → Option ℕ → Option (ℕ × ℕ)
+in_and_out key k n none = none
+in_and_out key k n (some v) = some (v, kth key k n)
+
+-- the n after it: "n becomes v+1"; with no such v it stays
+abbrev pub n_after : ℕ → Option ℕ → ℕ
+n_after n none = n
+n_after n (some v) = v + 1

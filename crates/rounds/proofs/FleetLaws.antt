@@ -14,13 +14,13 @@ use Rattle.lists.proofs.Tests.{by_test, by_three}
 use Rattle.lists.proofs.Searching.{by_first}
 use Rattle.lists.proofs.Sets.{Same, same_put, same_without}
 use Rattle.orders.specs.Orders.{layer_of}
-use Rattle.orders.specs.Reservoirs.{opening, due}
+use Rattle.orders.specs.Reservoirs.{opening, due, n_after}
 use Rattle.orders.specs.ReservoirCalls.{listed}
 use Rattle.orders.proofs.ReservoirLaws.{used_is}
 use Rattle.choosers.specs.SlotCalls.{slot_limit}
 use Rattle.choosers.proofs.SlotLaws.{Bounded, has_actives, actives_bounded}
 use Rattle.rounds.specs.Rounds.{State, reservoir_of}
-use Rattle.rounds.specs.Ledgers.{Call, admit, join, withdraw, Ledger, ledger, first_ledger, due_in, n_after, free_slot, accept, answer, fed}
+use Rattle.rounds.specs.Ledgers.{Call, admit, join, withdraw, Ledger, ledger, first_ledger, due_in, free_slot, accept, answer, fed}
 use Rattle.rounds.specs.Histories.{Opens, call, after_all, all_said}
 use Rattle.rounds.specs.Demand3.{Reached, Alike}
 use Rattle.rounds.specs.Outcomes.{too_short, reply}

@@ -18,8 +18,8 @@ use Rattle.orders.specs.declared.consistent_reservoir.Exchange.{Exchange}
 use Rattle.orders.specs.ReservoirCalls.{told_exchange}
 use Rattle.rounds.specs.declared.round.Round.{Round}
 use Rattle.rounds.specs.Rounds.{State, state, fitting, After, after, admit_call, join_call, withdraw_call}
-use Rattle.rounds.specs.Ledgers.{Call, admit, join, withdraw, Ledger, first_ledger, fed, fed_all}
-use Rattle.rounds.specs.Histories.{exchanged, slot_said, nothing_said, Made, admit_returned, join_returned, withdraw_returned, admit_left, join_left, withdraw_left, AllMade, made_none, made_next, refusals, valued, call, after_all, all_said}
+use Rattle.rounds.specs.Ledgers.{Call, admit, join, withdraw, Ledger, first_ledger, exchanged, fed, fed_all}
+use Rattle.rounds.specs.Histories.{slot_said, nothing_said, Made, admit_returned, join_returned, withdraw_returned, admit_left, join_left, withdraw_left, AllMade, made_none, made_next, refusals, valued, call, after_all, all_said}
 use Rattle.rounds.specs.Demand3.{Agree, Reached, ledger_of}
 use Rattle.rounds.proofs.RoundLaws.{Kept, Shows, open_shows}
 use Rattle.rounds.proofs.StepLaws.{possible, Refuses, Takes, outcome, Follows, step}

@@ -6,7 +6,6 @@ use mathlib.Core.Bool.{Bool, true, false, true≢false, cond}
 use mathlib.Core.List.{List, [], ◌∷◌, map}
 use mathlib.Core.Option.{Option, none, some}
 use Prim.Native.Nat.{ℕ}
-use native.Mathlib.Numerals.{add-one}
 use native.Mathlib.Omega.{arith}
 use borrow.Author.Tests.{ne_eqb}
 use lib.ListN.{length, take}
@@ -17,13 +16,13 @@ use Rattle.lists.proofs.Tests.{by_test, by_same}
 use Rattle.lists.proofs.Members.{has_no}
 use Rattle.lists.proofs.Having.{has_head, has_more, has_others}
 use Rattle.orders.specs.Orders.{P}
-use Rattle.orders.specs.Reservoirs.{due, kth}
+use Rattle.orders.specs.Reservoirs.{due, kth, in_and_out, n_after}
 use Rattle.orders.proofs.ReservoirLaws.{sample_is}
 use Rattle.orders.proofs.AdmissionLaws.{admit_exchange}
 use Rattle.choosers.specs.Slots.{active, state_of, slot_of}
 use Rattle.choosers.proofs.SlotLaws.{has_actives, slot_out, slot_put}
 use Rattle.rounds.specs.Rounds.{reservoir_of, State}
-use Rattle.rounds.specs.Ledgers.{Call, admit, join, withdraw, Ledger, free_slot, due_in, n_after, accept, in_and_out, answer, Sheet, sheet, plan_from}
+use Rattle.rounds.specs.Ledgers.{Call, admit, join, withdraw, Ledger, free_slot, due_in, accept, exchanged, answer, Sheet, sheet, plan_from}
 use Rattle.rounds.specs.Plans.{sampled, shown_plan}
 use Rattle.rounds.specs.Histories.{Made}
 use Rattle.rounds.specs.Demand3.{Reached, PlanOf, terminal, Moves, Alike, SampleMoves}
@@ -164,7 +163,7 @@ sampled_is s kept = sample_is (reservoir_of s.round) s.list kept.list
 -- by the number that is due
 exchanges : (s t : State) → Kept s → Kept t → t.round.master_key ≡ s.round.master_key → t.round.k ≡ s.round.k
     → (o : Option ℕ) → due s.round.master_key s.round.k s.round.n ≡ o → t.round.n ≡ n_after s.round.n o
-    → SampleMoves (sampled s) (sampled t) (in_and_out (shown s (actives_of s)) o)
+    → SampleMoves (sampled s) (sampled t) (exchanged (in_and_out s.round.master_key s.round.k s.round.n o))
 exchanges s t ks kt ekey ek none d en =
     inl (refl, sampled_is t kt ∙ (λ i. take (ek i) (P (ekey i) (en i))) ∙ sym (sampled_is s ks))
 exchanges s t ks kt ekey ek (some v) d en =
@@ -172,7 +171,7 @@ exchanges s t ks kt ekey ek (some v) d en =
       v,
       kth s.round.master_key s.round.k s.round.n,
       refl,
-      admit_exchange (reservoir_of s.round) s.list ks.list (reservoir_of t.round) t.list kt.list ekey ek v d (en ∙ add-one v),
+      admit_exchange (reservoir_of s.round) s.list ks.list (reservoir_of t.round) t.list kt.list ekey ek v d en,
     )
 
 -- "An admit changes the sample by exactly the two locations it names, one out and one in, or not at all"; "relative order"

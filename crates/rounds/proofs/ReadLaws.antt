@@ -9,7 +9,8 @@ use native.Mathlib.Omega.{arith}
 use borrow.Author.Tests.{ne_eqb}
 use lib.ListN.{length, drop}
 use Rattle.lists.specs.Told.{Told, refusal, says}
-use Rattle.rounds.specs.Ledgers.{Call, admit, join, withdraw, Ledger, due_in, in_and_out, answer}
+use Rattle.orders.specs.Reservoirs.{in_and_out}
+use Rattle.rounds.specs.Ledgers.{Call, admit, join, withdraw, Ledger, due_in, exchanged, answer}
 use Rattle.rounds.specs.Replays.{coded, coded_all, read_one, read_all}
 
 -- four numbers can be read: a refusal has a number above 0, and there are at most two values
@@ -56,7 +57,7 @@ drop_all (w ∷ ws) rest =
     rw (e, m) (drop_more w (4 * length ws) (coded_all ws ++ rest) ∙ drop_all ws rest)
 
 -- what the ledger answers can be read
-in_out_readable : (g : Ledger) (o : Option ℕ) → Readable (says (in_and_out g o))
+in_out_readable : (g : Ledger) (o : Option ℕ) → Readable (says (exchanged (in_and_out g.key g.k g.n o)))
 in_out_readable g none = tt
 in_out_readable g (some v) = tt
 

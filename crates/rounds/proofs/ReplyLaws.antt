@@ -17,16 +17,16 @@ use Rattle.orders.specs.declared.consistent_reservoir.ConsistentReservoir.{Consi
 use Rattle.orders.specs.Reservoirs.{opening}
 use Rattle.orders.specs.ReservoirCalls as Reservoir
 use Rattle.orders.proofs.AnewLaws.{Anew, AdmitAnew, finds_short, finds_none, brings_in, admit_anew, open_anew}
-use Rattle.orders.proofs.AdmissionLaws.{Admits}
+use Rattle.orders.specs.Admissions.{Admits}
 use Rattle.choosers.specs.SlotCalls as Slots
 use Rattle.rounds.specs.Rounds.{State, After, reservoir_of, fitting, refused, by_reservoir, admit_call, join_call, withdraw_call}
-use Rattle.rounds.specs.Ledgers.{Call, admit, join, withdraw, Ledger, first_ledger, due_in, free_slot, answer, fed}
-use Rattle.rounds.specs.Histories.{exchanged, Opens, AllMade, made_none, made_next, valued, call}
+use Rattle.rounds.specs.Ledgers.{Call, admit, join, withdraw, Ledger, first_ledger, due_in, free_slot, exchanged, answer, fed}
+use Rattle.rounds.specs.Histories.{Opens, AllMade, made_none, made_next, valued, call}
 use Rattle.rounds.specs.Demand3.{Reached}
 use Rattle.rounds.specs.Outcomes.{too_short, reply}
 use Rattle.rounds.specs.Fleets.{is_none, said_none}
 use Rattle.rounds.proofs.RoundLaws.{Kept, actives_of, shown, Shows, fits_kept, open_list, open_shows}
-use Rattle.rounds.proofs.StepLaws.{Refuses, Takes, outcome, in_out_lem, through}
+use Rattle.rounds.proofs.StepLaws.{Refuses, Takes, outcome, through}
 use Rattle.rounds.proofs.MadeLaws.{Counts, as_call, as_none, made_counts, made_step}
 
 -- the list as an open has it; b: an admit said none
@@ -78,7 +78,7 @@ module _ (s : State) (A : List ℕ) (kept : Kept s) (b : Bool) (now : ListAnew s
 
   admit_says : Admits (reservoir_of s.round) a → map_told exchanged a.told ≡ says (answer g admit)
   unfolding answer
-  admit_says m = ap (map_told exchanged) m.told_is ∙ ap says (in_out_lem g (due_in g))
+  admit_says m = ap (map_told exchanged) m.told_is
 
   admit_part : AdmitAnew (reservoir_of s.round) s.list b a → Part a
   unfolding answer

@@ -7,6 +7,7 @@ use mathlib.Core.List.{List, []}
 use Prim.Native.Nat.{ℕ}
 use Rattle.std.proofs.Math.Path.{subst₂}
 use Rattle.lists.specs.Told.{says, map_told}
+use Rattle.orders.specs.Admissions as Admissions
 use Rattle.orders.proofs.ReservoirLaws as List
 use Rattle.choosers.specs.Slots.{actives}
 use Rattle.choosers.specs.SlotCalls as Slots
@@ -20,7 +21,7 @@ use Rattle.lists.proofs.Sets.{Same}
 
 -- the record against its memory
 pub record Kept (s : State) : Type 0 where
-  pub list : List.Kept (reservoir_of s.round) s.list
+  pub list : Admissions.Kept (reservoir_of s.round) s.list
   pub table : Slots.fitting (map_of s.round) s.table ≡ true
 
 -- the active slots, as the record and the table have them
@@ -53,14 +54,14 @@ unfolding actives
 none_active t = refl
 
 -- the reservoir of a round just opened
-pub open_list : (key k n : ℕ) (s : State) → Opens key k n s → List.Opens key k n (reservoir_of s.round) s.list × (s.round.total ≡ 0)
+pub open_list : (key k n : ℕ) (s : State) → Opens key k n s → Admissions.Opened key k n (reservoir_of s.round) s.list × (s.round.total ≡ 0)
 unfolding open_call
 open_list key k n s o =
-    List.open_kept (λ a. after_open (map_told (λ r. round_of r (Slots.map_of 0)) a.told) a.list ≡ after_open (says s.round) s.list → List.Opens key k n (reservoir_of s.round) s.list × (s.round.total ≡ 0)) k n key o.lent
+    List.open_kept (λ a. after_open (map_told (λ r. round_of r (Slots.map_of 0)) a.told) a.list ≡ after_open (says s.round) s.list → Admissions.Opened key k n (reservoir_of s.round) s.list × (s.round.total ≡ 0)) k n key o.lent
     (λ w e. not_said w s.round (ap (λ (a : AfterOpen). a.told) e))
     (λ r l q e. let is-round : round_of r (Slots.map_of 0) ≡ s.round = said_same (round_of r (Slots.map_of 0)) s.round (ap (λ (a : AfterOpen). a.told) e) in
     let is-list : l ≡ s.list = ap (λ (a : AfterOpen). a.list) e in
-    (subst₂ (List.Opens key k n) (ap reservoir_of is-round) is-list q, sym (ap (λ (r : Round). r.total) is-round)))
+    (subst₂ (Admissions.Opened key k n) (ap reservoir_of is-round) is-list q, sym (ap (λ (r : Round). r.total) is-round)))
     o.accepted
 
 pub open_shows : (key k n : ℕ) (s : State) → Opens key k n s → Shows s (first_ledger key k n)

@@ -5,9 +5,8 @@ use mathlib.Core.Path.{◌≡◌, refl, sym, ap, subst, ◌∙◌}
 use mathlib.Core.Bool.{Bool, true, false, true≢false, cond, not}
 use mathlib.Core.Logic.{◌⊎◌, inl, inr, ⊎_elim}
 use mathlib.Core.List.{List, [], ◌∷◌}
-use mathlib.Core.Option.{Option, none, some, get_or}
+use mathlib.Core.Option.{Option, get_or}
 use Prim.Native.Nat.{ℕ, ◌+◌, ◌-◌, ◌≤◌, ◌<◌, min, max}
-use native.Mathlib.Numerals.{add-one}
 use native.Mathlib.Omega.{arith}
 use borrow.Author.Tests.{eq-eqb, ne_eqb}
 use lib.Dec.{eqb}
@@ -19,7 +18,8 @@ use Rattle.lists.proofs.Tests.{by_test, by_below, by_same, by_cond}
 use Rattle.lists.proofs.Searching.{first_same}
 use Rattle.orders.specs.ReservoirCalls as Reservoir
 use Rattle.orders.proofs.MemoryLaws.{admit_length}
-use Rattle.orders.proofs.AdmissionLaws.{in_out, reached_by, Short, Admits, admit_kept}
+use Rattle.orders.specs.Admissions.{Short, Admits}
+use Rattle.orders.proofs.AdmissionLaws.{admit_kept}
 use Rattle.choosers.specs.declared.node_map.ConsistentNodeMap.{ConsistentNodeMap}
 use Rattle.choosers.specs.Slots.{active, vacant}
 use Rattle.choosers.specs.SlotCalls as Slots
@@ -28,8 +28,8 @@ use Rattle.choosers.proofs.SlotLaws.{has_actives}
 use Rattle.choosers.proofs.AddLaws.{vacant_le, vacant_outside, add_room, add_no_room, add_actives, add_count, add_fits, add_bytes}
 use Rattle.choosers.proofs.RemoveLaws.{remove_active, remove_actives, remove_count, remove_fits, remove_bytes}
 use Rattle.rounds.specs.Rounds.{reservoir_of, map_of, State, fitting, After, refused, by_reservoir, by_slots, admit_call, join_call, withdraw_call}
-use Rattle.rounds.specs.Ledgers.{Call, admit, join, withdraw, Ledger, ledger, n_after, due_in, free_slot, accept, in_and_out, answer, fed}
-use Rattle.rounds.specs.Histories.{exchanged, slot_said, nothing_said, valued, call}
+use Rattle.rounds.specs.Ledgers.{Call, admit, join, withdraw, Ledger, ledger, free_slot, accept, exchanged, answer, fed}
+use Rattle.rounds.specs.Histories.{slot_said, nothing_said, valued, call}
 use Rattle.rounds.specs.Demand3.{agrees}
 use Rattle.lists.proofs.Sets.{Same, same_put, same_without}
 use Rattle.rounds.proofs.RoundLaws.{Kept, actives_of, shown, Shows, fits_kept}
@@ -61,11 +61,6 @@ pub record Takes (s : State) (g : Ledger) (x : Call) (a : After (List ℕ)) : Ty
 abbrev pub Outcome : State → Ledger → Call → After (List ℕ) → Type 0
 Outcome s g x a = Refuses s g x a ⊎ Takes s g x a
 
--- what an admit names, as the ledger has it
-pub in_out_lem : (g : Ledger) (o : Option ℕ) → exchanged (in_out g.key g.k g.n o) ≡ in_and_out g o
-in_out_lem g none = refl
-in_out_lem g (some v) = refl
-
 -- a fitting round's call is that of its part
 pub through : {A : Type 0} (Q : After (List ℕ) → Type 0) (f : A → List ℕ) (b : Bool) (x y : After A) → b ≡ true → Q (valued f x) → Q (valued f (cond b x y))
 through Q f b x y e q = subst (λ (c : Bool). Q (valued f (cond c x y))) (sym e) q
@@ -78,19 +73,15 @@ module _ (s : State) (A : List ℕ) (set : Same (actives_of s) A) (kept : Kept s
 
   -- ---- admit
 
-  n_after_lem : (n : ℕ) (o : Option ℕ) → reached_by n o ≡ n_after n o
-  n_after_lem n none = refl
-  n_after_lem n (some v) = sym (add-one v)
-
   admit_takes : Admits (reservoir_of s.round) (Reservoir.admit_call (reservoir_of s.round) s.list)
       → Takes s g admit (valued exchanged (by_reservoir s (Reservoir.admit_call (reservoir_of s.round) s.list)))
   unfolding accept answer
   admit_takes m = record {
     room = λ (h : Short (reservoir_of s.round) s.list (Reservoir.admit_call (reservoir_of s.round) s.list)).
         not_said 4 _ (sym (ap (λ (a : Reservoir.After (Option (ℕ × ℕ))). a.told) h.is_refused) ∙ m.told_is);
-    told_is = ap (map_told exchanged) m.told_is ∙ ap says (in_out_lem g (due_in g));
+    told_is = ap (map_told exchanged) m.told_is;
     shows = record {
-      numbers = λ i. ledger (m.key_is i) (m.k_is i) ((m.n_is ∙ n_after_lem g.n (due_in g)) i) A s.round.total;
+      numbers = λ i. ledger (m.key_is i) (m.k_is i) (m.n_is i) A s.round.total;
       set = set;
       kept = record { list = m.kept; table = kept.table };
     };

@@ -18,8 +18,8 @@ use Rattle.choosers.specs.declared.node_map.ConsistentNodeMap.{ConsistentNodeMap
 use Rattle.choosers.specs.Slots.{active, vacant}
 use Rattle.choosers.specs.SlotCalls as Slots
 use Rattle.rounds.specs.Rounds.{State, After, round_of, reservoir_of, map_of, state, fitting, admit_call, join_call, withdraw_call}
-use Rattle.rounds.specs.Ledgers.{Call, admit, join, withdraw}
-use Rattle.rounds.specs.Histories.{exchanged, slot_said, nothing_said, Made, call}
+use Rattle.rounds.specs.Ledgers.{Call, admit, join, withdraw, exchanged}
+use Rattle.rounds.specs.Histories.{slot_said, nothing_said, Made, call}
 use Rattle.rounds.proofs.MadeLaws.{made_is}
 
 -- ---- the reservoir's part

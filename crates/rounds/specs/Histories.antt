@@ -1,7 +1,6 @@
 -- Lists of calls on a round, each on what the one before returned or left.
 -- Assumes nothing.
 use Rattle.std.specs.Prelude.{◌≡◌, Bool, List, [], ◌∷◌, map, ℕ, Option, Result}
-use Rattle.std.proofs.Math.Option as maybe
 use Rattle.lists.specs.Told.{Told, says, map_told, is_refusal}
 use Rattle.answers.specs.declared.Refusal.{Refusal}
 use Rattle.answers.specs.Refusals.{told}
@@ -9,13 +8,9 @@ use Rattle.orders.specs.declared.consistent_reservoir.Exchange.{Exchange}
 use Rattle.orders.specs.ReservoirCalls.{told_exchange}
 use Rattle.rounds.specs.declared.round.Round.{Round}
 use Rattle.rounds.specs.Rounds.{State, state, open_call, after_open, After, after, admit_call, join_call, withdraw_call}
-use Rattle.rounds.specs.Ledgers.{Call, admit, join, withdraw}
+use Rattle.rounds.specs.Ledgers.{Call, admit, join, withdraw, exchanged}
 
--- the values of an admit: the location in and the one out, or none
-abbrev pub exchanged : maybe.Option (ℕ × ℕ) → List ℕ
-exchanged maybe.none = []
-exchanged (maybe.some p) = p.0 ∷ p.1 ∷ []
-
+-- a call's values, as the ledger has them
 abbrev pub slot_said : ℕ → List ℕ
 slot_said x = x ∷ []
 

@@ -5,7 +5,7 @@ use Rattle.std.proofs.Math.Option.{Option, none, some, get_or}
 use Rattle.lists.specs.Told.{Told, refusal, says}
 use Rattle.lists.specs.Lists.{has, without, first_from}
 use Rattle.orders.specs.Orders.{P}
-use Rattle.orders.specs.Reservoirs.{due, kth}
+use Rattle.orders.specs.Reservoirs.{due, in_and_out, n_after}
 use Rattle.choosers.specs.Slots.{slot_of}
 
 -- "the calls in order, each by name with its numbers but no memory"
@@ -32,31 +32,26 @@ first_ledger key k n = ledger key k n [] 0
 abbrev pub due_in : Ledger → Option ℕ
 due_in g = due g.key g.k g.n
 
--- "n becomes v+1"; with no such v it stays
-abbrev pub n_after : ℕ → Option ℕ → ℕ
-n_after n none = n
-n_after n (some v) = v + 1
-
 -- "Join: the smallest slot below c outside A, else c"
 unfoldable pub free_slot : Ledger → ℕ
 free_slot g = get_or (first_from (λ x. not (has x g.A)) 0 g.c) g.c
 
--- The ledger after a call that was not refused. "Join: .. else c, c then rising by 1; that slot .. enters A. Withdraw: the slot
--- leaves A; if it was c−1, c falls by 1."
+-- The ledger after a call that was not refused. "n becomes v+1. With no such v: none. Join: .. else c, c then rising by 1; that slot ..
+-- enters A. Withdraw: the slot leaves A; if it was c−1, c falls by 1."
 unfoldable pub accept : Ledger → Call → Ledger
 accept g admit = ledger g.key g.k (n_after g.n (due_in g)) g.A g.c
 accept g join = ledger g.key g.k g.n (free_slot g ∷ g.A) (cond (eqb (free_slot g) g.c) (g.c + 1) g.c)
 accept g (withdraw s) = ledger g.key g.k g.n (without s g.A) (cond (eqb (s + 1) g.c) (g.c - 1) g.c)
 
--- "in is v, out the k-th of P(n)"; "With no such v: none."
-abbrev pub in_and_out : Ledger → Option ℕ → List ℕ
-in_and_out g none = []
-in_and_out g (some v) = v ∷ kth g.key g.k g.n ∷ []
+-- the values of an admit: the location in and the one out, or none
+abbrev pub exchanged : Option (ℕ × ℕ) → List ℕ
+exchanged none = []
+exchanged (some p) = p.0 ∷ p.1 ∷ []
 
--- The values that the ledger answers to a call that was not refused: of an admit the location in and the one out, or none; of a
+-- The values that the ledger answers to a call that was not refused: of an admit "in is v, out the k-th of P(n)", or none; of a
 -- join the slot; of a withdraw nothing.
 unfoldable pub answer : Ledger → Call → List ℕ
-answer g admit = in_and_out g (due_in g)
+answer g admit = exchanged (in_and_out g.key g.k g.n (due_in g))
 answer g join = free_slot g ∷ []
 answer g (withdraw s) = []
 

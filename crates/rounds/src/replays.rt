@@ -5,7 +5,8 @@ ghost use Rattle.lists.specs.Lists.{every, written};
 ghost use Rattle.answers.specs.Refusals.{told};
 ghost use Rattle.orders.specs.ReservoirCalls.{told_exchange};
 ghost use Rattle.rounds.specs.Rounds.{state};
-ghost use Rattle.rounds.specs.Histories.{exchanged, slot_said, nothing_said, after_all, all_said};
+ghost use Rattle.rounds.specs.Ledgers.{exchanged};
+ghost use Rattle.rounds.specs.Histories.{slot_said, nothing_said, after_all, all_said};
 ghost use Rattle.rounds.specs.Replays.{known, call_of, coded, coded_all, after_replay, run_of, replay_call, ScratchRun, ReplayScratch, Replayed};
 ghost use Rattle.rounds.specs.InnerReplays.{Reads, placed_at, stepped, step_of, as_call};
 

@@ -1,9 +1,10 @@
 -- `exports::xor_outputs` meets its contract.
 -- Assumes nothing.
-use Rattle.std.proofs.Common.{◌≡◌}
-use Rattle.layers.specs.KeyedLayers.{applied}
+use Rattle.std.proofs.Common.{◌≡◌, ℕ, ◌≤◌}
+use Rattle.layers.specs.Layer.{layer}
+use Rattle.layers.specs.KeyedLayers.{keyed_layer}
 use Rattle.exports.specs.Coded.{xors}
 use Rattle.exports.proofs.xor_outputs.Given as goal
 
 abbrev pub invariant-loop-x : goal.invariant-loop-x
-invariant-loop-x l = l.sum ≡ xors (applied l.f) l.x
+invariant-loop-x l = (j key : ℕ) → j ≤ 14 → l.f ≡ keyed_layer j key → l.sum ≡ xors (layer j key) l.x

@@ -1,10 +1,11 @@
 -- `choosers::node_map::first_active` meets its contract.
 -- Assumes nothing.
 use mathlib.Core.Path.{◌≡◌, refl, sym, ap, ◌∙◌}
+use mathlib.Core.List.{◌++◌}
 use Prim.Native.Nat.{ℕ, ◌+◌}
 use native.Mathlib.Omega.{arith}
 use lib.Dec.{eqb}
-use lib.ListN.{get_or, drop, length-append, length-drop}
+use lib.ListN.{length, get_or, drop, length-append, length-drop}
 use lib.Seq.{length-take-le}
 use Rattle.choosers.specs.Choosers.{S, Q}
 use Rattle.choosers.proofs.OrderLaws.{Q_below}
@@ -30,14 +31,25 @@ number : (c : After-next_number-x) → c.next_number-x.result ≡ get_or (Q c.ar
 number c =
     c.next_number-x.ensures.number ∙ ap (λ (k : ℕ). get_or (Q c.args.state c.args.count) k 0) (one_less c.loop-k.k c.loop-k.scratch (omega arith))
 
+-- the scratch keeps its length
+keeps : (c : After-next_number-x) → length (c.next_number-x.new.scratch ++ drop (c.loop-k.k + 1) c.loop-k.scratch) ≡ length c.args.scratch.now
+keeps c =
+    let k = c.loop-k.k in
+    let l = c.loop-k.scratch in
+    let new = c.next_number-x.new.scratch in
+    omega (arith, c.loop-k.invariant.0, c.next_number-x.auto.scratch, length-append new (drop (k + 1) l), length-drop (k + 1) l, length-take-le (k + 1) l (omega arith))
+
 pub overflow_cast-result : goal.overflow_cast-result
 overflow_cast-result c =
     omega (arith, number (goal.at.overflow_cast-result c).After-next_number-x, Q_below c.args.state c.args.count c.loop-k.k (omega arith))
 
 pub returns-then-eq : goal.returns-then-eq
 returns-then-eq c =
-    let n = number (goal.at.returns-then-eq c).After-next_number-x in
-    look_hit _ _ _ _ _ (omega arith) (omega arith) _ n (test (goal.at.returns-then-eq c).After-eq ∙ c.if-eq.true) c.loop-k.invariant.1
+    let x = (goal.at.returns-then-eq c).After-next_number-x in
+    record {
+      answer = look_hit _ _ _ _ _ (omega arith) (omega arith) _ (number x) (test (goal.at.returns-then-eq c).After-eq ∙ c.if-eq.true) c.loop-k.invariant.1;
+      scratch = keeps x;
+    }
 
 pub loop-k-preserved : goal.loop-k-preserved
 loop-k-preserved c =
@@ -46,11 +58,11 @@ loop-k-preserved c =
     let l = c.loop-k.scratch in
     let new = c.next_number-x.new.scratch in
     let same = c.next_number-x.auto.scratch in
-    let n = number (goal.at.loop-k-preserved c).After-next_number-x in (
-      omega (arith, v.0, same, length-append new (drop (k + 1) l), length-drop (k + 1) l, length-take-le (k + 1) l (omega arith)),
-      look_next _ _ _ _ _ (omega arith) (omega arith) _ n (test (goal.at.loop-k-preserved c).After-eq ∙ c.if-eq.false) v.1,
+    let x = (goal.at.loop-k-preserved c).After-next_number-x in (
+      keeps x,
+      look_next _ _ _ _ _ (omega arith) (omega arith) _ (number x) (test (goal.at.loop-k-preserved c).After-eq ∙ c.if-eq.false) v.1,
       stands_whole _ _ k l (omega arith) new same c.next_number-x.ensures.stands,
     )
 
 pub returns : goal.returns
-returns c = look_over _ _ _ _ c.loop-k.k (omega arith) c.loop-k.invariant.1
+returns c = record { answer = look_over _ _ _ _ c.loop-k.k (omega arith) c.loop-k.invariant.1; scratch = c.loop-k.invariant.0 }

@@ -6,4 +6,7 @@ use Rattle.exports.specs.Coded.{coded_hash}
 use Rattle.exports.proofs.slots.perillajamb_first_active.Goals as goal
 
 pub returns : goal.returns
-returns c = c.number_or_none.ensures ∙ ap (λ o. coded_hash (says o)) c.first_active-found.ensures
+returns c = record {
+  answer = c.number_or_none.ensures ∙ ap (λ o. coded_hash (says o)) c.first_active-found.ensures.answer;
+  scratch = c.first_active-found.ensures.scratch;
+}

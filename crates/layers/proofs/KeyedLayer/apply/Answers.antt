@@ -1,8 +1,10 @@
 -- `layers::KeyedLayer::apply` meets its contract.
 -- Assumes nothing.
-use Rattle.std.proofs.Common.{◌^◌, ◌<◌}
+use Rattle.std.proofs.Common.{◌≡◌, ◌^◌, ◌<◌, ap, ◌∙◌, arith}
+use Rattle.layers.specs.declared.KeyedLayer.{KeyedLayer}
 use Rattle.layers.specs.KeyedLayers.{applied}
 use Rattle.layers.specs.InnerRounds.{Within}
+use Rattle.layers.proofs.KeyedLaws.{keyed_layer_lem}
 use Rattle.layers.proofs.RoundLaws.{new_lt, start_within, rounds_within}
 use Rattle.layers.proofs.KeyedLayer.apply.Goals as goal
 
@@ -19,7 +21,8 @@ over-requires c =
 pub returns : goal.returns
 unfolding applied
 returns c =
-    simp (
+    let a = c.args in
+    let e : c.over.result ≡ applied a.self a.x = simp (
       c.over.ensures,
       c.rounds.ensures,
       c.turned-d.ensures,
@@ -28,4 +31,5 @@ returns c =
       c.turned-a.ensures,
       c.start-s.ensures,
       c.new-half.ensures,
-    )
+    ) in
+    record { any = e; layer = λ j key q f. e ∙ ap (λ (g : KeyedLayer). applied g a.x) f ∙ keyed_layer_lem j key a.x (omega arith) }

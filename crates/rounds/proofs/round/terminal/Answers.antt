@@ -5,4 +5,4 @@ use Rattle.rounds.proofs.DealLaws.{slot_found}
 use Rattle.rounds.proofs.round.terminal.Goals as goal
 
 pub returns : goal.returns
-returns c = c.unwrap_or.ensures ∙ slot_found _ _ _ _ _ _ _ c.location_state-state.ensures c.first_active.ensures
+returns c = c.unwrap_or.ensures ∙ slot_found _ _ _ _ _ _ _ c.location_state-state.ensures c.first_active.ensures.answer

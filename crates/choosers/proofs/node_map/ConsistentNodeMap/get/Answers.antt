@@ -52,7 +52,7 @@ pub returns : goal.returns
 returns c =
     let a = (goal.at.returns c).After-any in
     record {
-      answer = ap told c.ok_or.ensures.value ∙ get_looked _ _ _ _ (fit a) (enough a) _ c.first_active.ensures;
+      answer = ap told c.ok_or.ensures.value ∙ get_looked _ _ _ _ (fit a) (enough a) _ c.first_active.ensures.answer;
       -- one is active, so it is found
-      scratch_after = scratch_looked _ _ _ _ (fit a) (enough a) (sym c.if-not-any.false ∙ one a) _ c.first_active.ensures _ c.ok_or.ensures.value _ _ c.first_active.auto.scratch;
+      scratch_after = scratch_looked _ _ _ _ (fit a) (enough a) (sym c.if-not-any.false ∙ one a) _ c.first_active.ensures.answer _ c.ok_or.ensures.value _ _ c.first_active.ensures.scratch;
     }

@@ -1,9 +1,9 @@
 -- `orders::outputs::Outputs::at` meets its contract.
 -- Assumes nothing.
-use Rattle.layers.proofs.KeyedLaws.{keyed_layer_lem}
+use native.Mathlib.Omega.{arith}
 use Rattle.orders.proofs.outputs.Outputs.at.Goals as goal
 
 pub returns : goal.returns
 returns c =
     let s = c.args.self in
-    rw (c.apply.ensures, s.made) (keyed_layer_lem s.layer.number s.key c.args.x s.layer.below)
+    c.apply.ensures.layer s.layer.number s.key (omega (arith, s.layer.below)) s.made

@@ -1,4 +1,4 @@
--- The definitions at a few keys, against numbers of the original.
+-- Document 01's orders and reservoirs at a few keys, against numbers of the original.
 -- Assumes nothing.
 use mathlib.Core.Path.{◌≡◌, refl}
 use mathlib.Core.List.{[], ◌∷◌}

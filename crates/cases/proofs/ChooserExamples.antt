@@ -1,4 +1,4 @@
--- The definitions at one state, against numbers of the original.
+-- Document 01's choosers at one state, against numbers of the original.
 -- Assumes nothing.
 use mathlib.Core.Path.{◌≡◌, refl}
 use mathlib.Core.List.{[], ◌∷◌}

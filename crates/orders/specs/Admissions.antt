@@ -1,0 +1,133 @@
+-- Document 01, "A plan call, followed downwards", the end of **Reservoir**, with the words of **Ledger**: what an admit of a record reached
+-- from open says and leaves, by the orders alone. The whole claim is `AdmissionHolds`, and `admission` (proofs/HistoryLaws.antt) its proof.
+-- Rounds rest on this file.
+-- Assumes nothing.
+use Rattle.std.specs.Prelude.{◌≡◌, ◌⊎◌, true, false, cond, List, ℕ, suc, ◌+◌, ◌^◌, ◌≤◌, ◌<◌, ltb, length}
+use Rattle.std.proofs.Math.Option.{Option, none, some}
+use Rattle.lists.specs.Told.{says}
+use Rattle.lists.specs.Lists.{Exchanges}
+use Rattle.orders.specs.declared.consistent_reservoir.ConsistentReservoir.{ConsistentReservoir}
+use Rattle.orders.specs.Orders.{layer_of}
+use Rattle.orders.specs.Reservoirs.{wider, held, among, due, in_and_out, n_after}
+use Rattle.orders.specs.ReservoirCalls.{key_of, j_of, listed, sample, after_open, open_call, After, refused, admit_call, grow_layer_call}
+use Rattle.orders.specs.Histories.{Call, ReservoirState, after_all}
+
+-- ---- what is due
+
+-- v is "the smallest v from n up that is among the first k of P(v+1)", below 2^30
+pub record Due (key k n v : ℕ) : Type 0 where
+  -- "from n up", "below 2^30"
+  pub from_n : n ≤ v
+  pub limit : v < 2 ^ 30
+  -- "among the first k of P(v+1)"
+  pub among_first : among key k v ≡ true
+  -- "the smallest"
+  pub smallest : (u : ℕ) → n ≤ u → u < v → among key k u ≡ false
+
+-- "no v below 2^30 is"
+abbrev pub NoneDue : ℕ → ℕ → ℕ → Type 0
+NoneDue key k n = (u : ℕ) → n ≤ u → u < 2 ^ 30 → among key k u ≡ false
+
+-- what `due` finds
+abbrev pub DueIs : ℕ → ℕ → ℕ → Option ℕ → Type 0
+DueIs key k n none = NoneDue key k n
+DueIs key k n (some v) = Due key k n v
+
+-- ---- what an admit does, by the number that is due
+
+-- the sample before and after: these two are exchanged, and the others keep their order; with none it stays
+abbrev pub ChangesBy : List ℕ → List ℕ → Option (ℕ × ℕ) → Type 0
+ChangesBy before now none = now ≡ before
+ChangesBy before now (some p) = Exchanges before now p.0 p.1
+
+-- ---- a record reached from open
+
+-- record and list
+pub record Kept (r : ConsistentReservoir) (l : List ℕ) : Type 0 where
+  -- nothing of refusal 12: "k 0 or above n, n above 4^(j+1), j above 14, a used length .. past its list"
+  pub some_k : 0 < r.k
+  pub k_le : r.k ≤ r.n
+  pub n_le : r.n ≤ 4 ^ suc (j_of r)
+  pub j_le : j_of r ≤ 14
+  pub used_le : r.used ≤ length l
+  -- "the list holds P(4^(j+1)) .. up to and with its k-th number below n"
+  pub list_is : listed r l ≡ held (key_of r) (j_of r) r.k r.n
+
+-- an accepted open of k of n under key leaves such a record
+pub record Opened (key k n : ℕ) (r : ConsistentReservoir) (l : List ℕ) : Type 0 where
+  pub key_is : key_of r ≡ key
+  pub k_is : r.k ≡ k
+  pub n_is : r.n ≡ n
+  pub layer_is : j_of r ≡ layer_of n
+  pub kept : Kept r l
+
+-- the layer that an admit ends at, none where there is no such layer: "if the used length exceeds k", j; else "the first i up to 14
+-- with Li(k) above k"
+abbrev pub ends_at : ConsistentReservoir → Option ℕ
+ends_at r = cond (ltb r.k r.used) (some (j_of r)) (wider (key_of r) r.k (j_of r))
+
+-- refusal 4
+pub record Short (r : ConsistentReservoir) (l : List ℕ) (a : After (Option (ℕ × ℕ))) : Type 0 where
+  -- a number is due, and the layer that the admit ends at
+  pub v : ℕ
+  pub j : ℕ
+  pub is_due : due (key_of r) r.k r.n ≡ some v
+  pub j_le : j ≤ 14
+  pub at_layer : ends_at r ≡ some j
+  -- "a lent list shorter .. than the used length that the call would end with"
+  pub short : length l < length (held (key_of r) j r.k (v + 1))
+  -- "a refused one changes nothing"
+  pub is_refused : a ≡ refused 4 r l
+
+-- what an accepted admit says and leaves, by the number that is due
+pub record Admits (r : ConsistentReservoir) (a : After (Option (ℕ × ℕ))) : Type 0 where
+  -- "in is v, out the k-th of P(n)"; "With no such v: none."
+  pub told_is : a.told ≡ says (in_and_out (key_of r) r.k r.n (due (key_of r) r.k r.n))
+  -- "key, k .. as opened", "n becomes v+1"
+  pub key_is : key_of a.reservoir ≡ key_of r
+  pub k_is : a.reservoir.k ≡ r.k
+  pub n_is : a.reservoir.n ≡ n_after r.n (due (key_of r) r.k r.n)
+  -- "the list holds P(4^(j+1)) .. up to and with its k-th number below n", of the new n
+  pub kept : Kept a.reservoir a.list
+
+-- ---- the whole claim
+
+-- "So, in a record reached from open, admit brings in the smallest v from n up that is among the first k of P(v+1), and says none only
+-- where no v below 2^30 is."
+pub record Admission (key k : ℕ) (r : ConsistentReservoir) (l : List ℕ) (a : After (Option (ℕ × ℕ))) : Type 0 where
+  -- "key, k .. as opened"
+  pub key_is : key_of r ≡ key
+  pub k_is : r.k ≡ k
+  -- "the list holds P(4^(j+1)) .. up to and with its k-th number below n"
+  pub kept : Kept r l
+  -- what `due` finds is "the smallest v from n up that is among the first k of P(v+1)", or "no v below 2^30 is"
+  pub due_is : DueIs (key_of r) r.k r.n (due (key_of r) r.k r.n)
+  -- "4 a lent list shorter than what must be written"; else "admit brings in" what is due
+  pub outcome : Short r l a ⊎ Admits r a
+  -- demand 3: "An admit changes the sample by exactly the two locations it names, one out and one in, or not at all"
+  pub sample_is : Admits r a → ChangesBy (sample r l) (sample a.reservoir a.list) (in_and_out (key_of r) r.k r.n (due (key_of r) r.k r.n))
+
+-- from an accepted open, after any list of admits and grow_layers, refused ones among them
+abbrev pub AdmissionHolds : Type 0
+AdmissionHolds =
+    (k n key : ℕ) (l : List ℕ) (t : ReservoirState) → open_call k n key l ≡ after_open (says t.reservoir) t.list → (cs : List Call)
+    → let now = after_all cs t in
+    Admission key k now.reservoir now.list (admit_call now.reservoir now.list)
+
+-- ---- grow_layer
+
+-- what an accepted growth leaves: the same key, k, n and sample, at the next layer; of a record reached from open such a record
+pub record Grows (r : ConsistentReservoir) (l : List ℕ) (a : After (Unit {0})) : Type 0 where
+  pub told_is : a.told ≡ says tt
+  pub key_is : key_of a.reservoir ≡ key_of r
+  pub k_is : a.reservoir.k ≡ r.k
+  pub n_is : a.reservoir.n ≡ r.n
+  pub j_is : j_of a.reservoir ≡ j_of r + 1
+  pub sample_is : sample a.reservoir a.list ≡ sample r l
+  pub kept : Kept r l → Kept a.reservoir a.list
+
+-- any record and list: the growth is refused, which changes nothing, or it grows
+abbrev pub GrowthHolds : Type 0
+GrowthHolds =
+    (r : ConsistentReservoir) (l : List ℕ)
+    → ((c : ℕ) × (grow_layer_call r l ≡ refused c r l)) ⊎ Grows r l (grow_layer_call r l)
