@@ -22,3 +22,4 @@ pub mod ActiveLaws
 pub mod AddLaws
 pub mod RemoveLaws
 pub mod GetLaws
+pub mod RefusedLaws

@@ -3,6 +3,7 @@ pub mod ChooserCalls
 pub mod ChooserWalks
 pub mod Slots
 pub mod SlotCalls
+pub mod RefusedBy
 pub mod InnerChoosers
 pub mod InnerSlots
 pub mod InnerPlaces

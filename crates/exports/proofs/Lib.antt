@@ -7,4 +7,5 @@ pub mod RunLaws
 pub mod ChooserCrossLaws
 pub mod SlotCrossLaws
 pub mod RoundCrossLaws
+pub mod RefusedLaws
 pub mod RoundHistoryLaws

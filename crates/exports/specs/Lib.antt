@@ -8,4 +8,5 @@ pub mod InnerRuns
 pub mod Chooser
 pub mod Slots
 pub mod Rounds
+pub mod RefusedBy
 pub mod RoundHistories

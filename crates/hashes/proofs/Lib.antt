@@ -9,3 +9,4 @@ pub mod CallLaws
 pub mod LargestLaws
 pub mod WalkLaws
 pub mod Examples
+pub mod RefusedLaws

@@ -3,4 +3,5 @@ pub mod Next
 pub mod Calls
 pub mod InnerSearch
 pub mod Walks
+pub mod RefusedBy
 pub mod InnerBuckets

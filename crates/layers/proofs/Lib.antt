@@ -4,3 +4,4 @@ pub mod Permutes
 pub mod KeyedLaws
 pub mod RowLaws
 pub mod CallLaws
+pub mod RefusedLaws

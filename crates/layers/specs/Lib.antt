@@ -2,5 +2,6 @@ pub mod Layer
 pub mod Calls
 pub mod KeyedLayers
 pub mod Permutations
+pub mod RefusedBy
 pub mod InnerRows
 pub mod InnerRounds

@@ -12,3 +12,4 @@ pub mod FeedLaws
 pub mod PartLaws
 pub mod RunLaws
 pub mod LedgerLaws
+pub mod RefusedLaws

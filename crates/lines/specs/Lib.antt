@@ -5,5 +5,6 @@ pub mod Sessions
 pub mod Streams
 pub mod Inputs
 pub mod Runs
+pub mod RefusedBy
 pub mod InnerLines
 pub mod InnerSessions

@@ -1,6 +1,7 @@
 pub mod Numbers
 pub mod Tests
 pub mod Tolds
+pub mod Spared
 pub mod Places
 pub mod Keeping
 pub mod Members

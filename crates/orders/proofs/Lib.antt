@@ -23,4 +23,5 @@ pub mod CounterLaws
 pub mod DescentLaws
 pub mod NextLaws
 pub mod MemoryLaws
+pub mod RefusedLaws
 pub mod AnewLaws

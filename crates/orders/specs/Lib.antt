@@ -2,6 +2,7 @@ pub mod Orders
 pub mod Reservoirs
 pub mod OrderCalls
 pub mod ReservoirCalls
+pub mod RefusedBy
 pub mod Histories
 pub mod Admissions
 pub mod InnerPasses

@@ -15,3 +15,4 @@ pub mod RoundCallLaws
 pub mod DealLaws
 pub mod PlanCodeLaws
 pub mod ReplayTurns
+pub mod RefusedLaws

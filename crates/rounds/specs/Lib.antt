@@ -6,5 +6,6 @@ pub mod Demand3
 pub mod Outcomes
 pub mod Fleets
 pub mod Replays
+pub mod RefusedBy
 pub mod InnerRounds
 pub mod InnerReplays

@@ -1,0 +1,108 @@
+-- Demand 1 of each call that may be refused, on any record and any list: a refusal is one of its own, and leaves the lent record and the
+-- lent list as they were.
+-- Assumes nothing.
+use mathlib.Core.Path.{◌≡◌, refl}
+use mathlib.Core.Bool.{true}
+use mathlib.Core.List.{List}
+use mathlib.Core.Option.{Option, none, some}
+use Prim.Native.Nat.{ℕ, zero, suc, ◌-◌, ◌^◌}
+use lib.Dec.{ltb, eqb}
+use lib.ListN.{length}
+use Rattle.lists.specs.Steps.{Step}
+use Rattle.lists.specs.Lists.{below, same, has}
+use Rattle.lists.specs.Refusing.{Among, Spares}
+use Rattle.lists.proofs.Tests.{by_cond}
+use Rattle.orders.specs.declared.consistent_permutation.ConsistentPermutation.{ConsistentPermutation}
+use Rattle.orders.specs.declared.consistent_reservoir.ConsistentReservoir.{ConsistentReservoir}
+use Rattle.layers.specs.Layer.{size}
+use Rattle.orders.specs.Orders.{layer_of, counter, next_number}
+use Rattle.orders.specs.OrderCalls as Order
+use Rattle.orders.specs.Reservoirs.{opening, wider}
+use Rattle.orders.specs.ReservoirCalls.{After, after, AfterOpen, AfterSample, key_of, j_of, fitting, open_call, short_refusal, exchange_by, exchange, admit_at, admit_call, grow_to, grow_layer_call, sample_call}
+use Rattle.orders.specs.RefusedBy.{order_refusals, order_next_refusals, open_refusals, admit_refusals, grow_layer_refusals, sample_refusals}
+
+-- ---- orders
+
+pub order_refuses : (n key : ℕ) → Among order_refusals (Order.new_call n key)
+unfolding Order.new_call has same
+order_refuses n key = by_cond (Among order_refusals) (ltb (2 ^ 30) n) _ _ (λ above. refl) (λ not. tt)
+
+module _ (o : ConsistentPermutation) where
+  abbrev OrderSpared : Step ConsistentPermutation → Type 0
+  OrderSpared s = Spares order_next_refusals s.said o s.walk
+
+  first_refuses : (j c : ℕ) (cs : List ℕ) → OrderSpared (Order.first_of o j c cs)
+  unfolding has same
+  first_refuses j zero cs = tt
+  first_refuses j (suc c) cs =
+      by_cond OrderSpared (Order.meets (Order.key_of o) j cs) _ _
+      (λ met. (refl, refl))
+      (λ not. by_cond OrderSpared (below o.n (next_number (Order.key_of o) j cs).number) _ _ (λ is. tt) (λ later. first_refuses j c _))
+
+  pub order_next_refuses : let s = Order.next_call o in Spares order_next_refusals s.said o s.walk
+  unfolding Order.next_call has same
+  order_next_refuses =
+      by_cond OrderSpared (Order.within o.counters) _ _
+      (λ fits. by_cond OrderSpared (ltb (2 ^ 30) o.n) _ _ (λ above. (refl, refl)) (λ not. by_cond OrderSpared (eqb o.n 0) _ _ (λ zero. tt)
+      (λ some. first_refuses (layer_of o.n) (size (layer_of o.n) - counter o.counters (layer_of o.n)) o.counters)))
+      (λ unfit. (refl, refl))
+
+-- ---- reservoirs
+
+-- the refusal of an open for which some memory is too short
+pub short_refuses : (k n : ℕ) → has (short_refusal k n) open_refusals ≡ true
+unfolding short_refusal has same
+short_refuses k n =
+    by_cond Is (ltb (2 ^ 30) n) _ _ (λ y. refl) (λ m. by_cond Is (eqb k 0) _ _ (λ y. refl) (λ m. by_cond Is (ltb n k) _ _ (λ y. refl) (λ m. refl)))
+  where
+    Is : ℕ → Type 0
+    Is w = has w open_refusals ≡ true
+
+pub open_refuses : (k n key : ℕ) (l : List ℕ) → let a = open_call k n key l in Spares open_refusals a.told l a.list
+unfolding open_call has same
+open_refuses k n key l =
+    by_cond Spared (ltb (2 ^ 30) n) _ _ (λ above. (refl, refl))
+    (λ m. by_cond Spared (eqb k 0) _ _ (λ none. (refl, refl))
+    (λ m. by_cond Spared (ltb n k) _ _ (λ more. (refl, refl))
+    (λ m. by_cond Spared (ltb (length l) (length (opening key k n))) _ _ (λ short. (refl, refl)) (λ long. tt))))
+  where
+    Spared : AfterOpen → Type 0
+    Spared a = Spares open_refusals a.told l a.list
+
+module _ (r : ConsistentReservoir) (l : List ℕ) where
+  abbrev Spared : List ℕ → {A : Type 0} → After A → Type 0
+  Spared ws a = Spares ws a.told (after a.told r l) a
+
+  exchange_refuses : (i : ℕ) (xs : List ℕ) → Spared admit_refusals (exchange r i xs l)
+  unfolding exchange exchange_by has same
+  exchange_refuses i xs = by_cond (Spared admit_refusals) (ltb (length l) _) _ _ (λ short. (refl, refl)) (λ long. tt)
+
+  wider_refuses : (o : Option ℕ) → Spared admit_refusals (admit_at r l o)
+  wider_refuses none = tt
+  wider_refuses (some i) = exchange_refuses i _
+
+  pub admit_refuses : let a = admit_call r l in Spares admit_refusals a.told (after a.told r l) a
+  unfolding admit_call has same
+  admit_refuses =
+      by_cond (Spared admit_refusals) (fitting r l) _ _
+      (λ fits. by_cond (Spared admit_refusals) (ltb r.k r.used) _ _ (λ more. exchange_refuses _ _) (λ same. wider_refuses (wider (key_of r) r.k (j_of r))))
+      (λ unfit. (refl, refl))
+
+  pub grow_layer_refuses : let a = grow_layer_call r l in Spares grow_layer_refusals a.told (after a.told r l) a
+  unfolding grow_layer_call grow_to has same
+  grow_layer_refuses =
+      by_cond (Spared grow_layer_refusals) (fitting r l) _ _
+      (λ fits. by_cond (Spared grow_layer_refusals) (ltb r.k r.used) _ _ (λ waits. (refl, refl))
+      (λ none. by_cond (Spared grow_layer_refusals) (eqb (j_of r) 14) _ _ (λ top. (refl, refl))
+      (λ not. by_cond (Spared grow_layer_refusals) (ltb (length l) _) _ _ (λ short. (refl, refl)) (λ long. tt))))
+      (λ unfit. (refl, refl))
+
+  pub sample_refuses : (out : List ℕ) → let a = sample_call r l out in Spares sample_refusals a.told out a.out
+  unfolding sample_call has same
+  sample_refuses out =
+      by_cond SampleSpared (fitting r l) _ _
+      (λ fits. by_cond SampleSpared (ltb (length out) r.k) _ _ (λ short. (refl, refl)) (λ long. tt))
+      (λ unfit. (refl, refl))
+    where
+      SampleSpared : AfterSample → Type 0
+      SampleSpared a = Spares sample_refusals a.told out a.out
