@@ -26,8 +26,7 @@ use Rattle.rounds.specs.Ledgers.{Call, admit, join, withdraw, ledger, first_ledg
 use Rattle.rounds.specs.Plans.{terminal_of, plan_call, after_plan}
 use Rattle.rounds.specs.Histories.{Opens, AllMade, made_none, made_next, admit_left, join_left, join_returned, withdraw_returned, refusals, call, after_all, all_said}
 use Rattle.rounds.specs.Demand3.{Reached}
-use Rattle.rounds.proofs.RoundLaws.{open_shows}
-use Rattle.rounds.proofs.MadeLaws.{calls_made}
+use Rattle.rounds.proofs.FormLaws.{calls_made}
 
 abbrev key : ℕ
 key = 0x0123_4567_89AB_CDEF
@@ -91,7 +90,7 @@ reached = record {
   opens = opens;
   calls = calls;
   answers = said;
-  made = subst₂ (AllMade begin calls) all_said_lem after_all_lem (calls_made calls begin (first_ledger key 2 3) (open_shows key 2 3 begin opens));
+  made = subst₂ (AllMade begin calls) all_said_lem after_all_lem (calls_made calls begin);
 }
 
 -- its plan, over the first two places of lists of three: location 9 to terminal 0, 13 to terminal 1

@@ -7,18 +7,16 @@ use Prim.Native.Nat.{ℕ, ◌+◌, ◌*◌, ◌/◌, ◌%◌, ◌^◌, ◌≤◌
 use native.Mathlib.Omega.{arith}
 use borrow.Author.Tests.{lt-ltb, le-ltb}
 use lib.ListN.{length}
-use Rattle.lists.specs.Told.{Told, refusal, says, map_told, is_refusal}
+use Rattle.lists.specs.Told.{Told, refusal, says, map_told}
 use Rattle.lists.specs.Lists.{written}
 use Rattle.lists.proofs.Tests.{by_below}
 use Rattle.lists.proofs.Writing.{length_written}
 use Rattle.orders.specs.ReservoirCalls.{short_refusal}
 use Rattle.rounds.specs.declared.round.Round.{Round}
 use Rattle.rounds.specs.Rounds.{State, state, AfterOpen, after_open, open_call, After, admit_call, join_call, withdraw_call}
-use Rattle.rounds.specs.Ledgers.{Call, admit, join, withdraw, Ledger, first_ledger, exchanged, fed}
+use Rattle.rounds.specs.Ledgers.{Call, admit, join, withdraw, exchanged}
 use Rattle.rounds.specs.Histories.{slot_said, nothing_said, Opens, Made, AllMade, made_none, made_next, valued, call}
-use Rattle.rounds.proofs.RoundLaws.{Shows, open_shows}
-use Rattle.rounds.proofs.MadeLaws.{made_step, call_made}
-use Rattle.rounds.proofs.UnchangedLaws.{refused_unchanged}
+use Rattle.rounds.proofs.FormLaws.{call_made, refused_unchanged}
 use Rattle.exports.specs.Coded.{coded_done, coded_number}
 use Rattle.exports.specs.Reservoirs.{coded_exchange}
 use Rattle.exports.specs.Crossings.{Crossed, crossed, words_after}
@@ -39,12 +37,12 @@ long_after ws (refusal c) r h = h
 
 -- ---- a call
 
-module _ (s : State) (g : Ledger) (shows : Shows s g) (c : Call) (ws : List ℕ) (is : round_as ws ≡ s.round) where
+module _ (s : State) (c : Call) (ws : List ℕ) (is : round_as ws ≡ s.round) where
   -- the words after a call hold the record after it
   back_by : (w : Told (List ℕ)) → (call s c).told ≡ w → round_as (words_after ws w (round_words (call s c).state.round)) ≡ (call s c).state.round
   back_by (says vs) e = round_back (call s c).state.round ws
   back_by (refusal n) e =
-      let m : Made s c (refusal n) (call s c).state = subst (λ (w : Told (List ℕ)). Made s c w (call s c).state) e (call_made s g shows c) in
+      let m : Made s c (refusal n) (call s c).state = subst (λ (w : Told (List ℕ)). Made s c w (call s c).state) e (call_made s c) in
       is ∙ sym (ap (λ (z : State). z.round) (refused_unchanged m))
 
   back : round_as (words_after ws (call s c).told (round_words (call s c).state.round)) ≡ (call s c).state.round
@@ -62,7 +60,7 @@ after_map f ws rs (says x) = refl
 after_map f ws rs (refusal c) = refl
 
 -- by the model's call b, whose values are f's and whose answer is coded so
-module _ (x : Lent) (g : Ledger) (shows : Shows (round_in x) g) (h : 7 ≤ length x.words) (c : Call) {B : Type 0} (f : B → List ℕ) (b : After B) (code : Told B → ℕ)
+module _ (x : Lent) (h : 7 ≤ length x.words) (c : Call) {B : Type 0} (f : B → List ℕ) (b : After B) (code : Told B → ℕ)
     (is_call : valued f b ≡ call (round_in x) c) (is_code : (t : Told B) → code t ≡ number_of c (map_told f t)) where
   abbrev z : After (List ℕ)
   z = call (round_in x) c
@@ -72,13 +70,13 @@ module _ (x : Lent) (g : Ledger) (shows : Shows (round_in x) g) (h : 7 ≤ lengt
       let words : ws ≡ words_after x.words z.told (round_words z.state.round) =
       ap (λ (r : CrossedRound). r.words) e ∙ after_map f x.words (round_words b.state.round) b.told
       ∙ ap (λ (q : After (List ℕ)). words_after x.words q.told (round_words q.state.round)) is_call in
-      let round : round_as ws ≡ z.state.round = ap round_as words ∙ back (round_in x) g shows c x.words refl in
+      let round : round_as ws ≡ z.state.round = ap round_as words ∙ back (round_in x) c x.words refl in
       let list : l ≡ z.state.list = ap (λ (r : CrossedRound). r.list) e ∙ ap (λ (q : After (List ℕ)). q.state.list) is_call in
       let table : t ≡ z.state.table = ap (λ (r : CrossedRound). r.table) e ∙ ap (λ (q : After (List ℕ)). q.state.table) is_call in
       let left : z.state ≡ state (round_as ws) l t = λ i. state (sym round i) (sym list i) (sym table i) in
       record {
         w = z.told;
-        made = subst (Made (round_in x) c z.told) left (call_made (round_in x) g shows c);
+        made = subst (Made (round_in x) c z.told) left (call_made (round_in x) c);
         said = ap (λ (r : CrossedRound). r.answer) e ∙ is_code b.told ∙ ap (λ (q : After (List ℕ)). number_of c q.told) is_call;
         long = subst (λ (v : List ℕ). 7 ≤ length v) (sym words) (long_after x.words z.told z.state.round h);
       }
@@ -96,15 +94,15 @@ code_nothing : (x : ℕ) (t : Told (Unit {0})) → coded_done t ≡ number_of (w
 code_nothing x (says u) = refl
 code_nothing x (refusal c) = refl
 
-module _ (x : Lent) (g : Ledger) (shows : Shows (round_in x) g) (h : 7 ≤ length x.words) where
+module _ (x : Lent) (h : 7 ≤ length x.words) where
   one_in : {c : Call} {a : ℕ} {y : Lent} → MadeIn x c a y → CallIn x c a y
   unfolding call admit_crossed join_crossed withdraw_crossed
   one_in (admit_in a ws l e) =
-      call_in x g shows h admit exchanged (admit_call (round_in x)) coded_exchange refl code_exchange a ws l x.table (rw (le-ltb (length x.words) 7 h) at e)
+      call_in x h admit exchanged (admit_call (round_in x)) coded_exchange refl code_exchange a ws l x.table (rw (le-ltb (length x.words) 7 h) at e)
   one_in (join_in a ws t e) =
-      call_in x g shows h join slot_said (join_call (round_in x)) coded_number refl code_slot a ws x.list t (rw (le-ltb (length x.words) 7 h) at e)
+      call_in x h join slot_said (join_call (round_in x)) coded_number refl code_slot a ws x.list t (rw (le-ltb (length x.words) 7 h) at e)
   one_in (withdraw_in slot a ws t e) =
-      call_in x g shows h (withdraw slot) nothing_said (withdraw_call (round_in x) slot) coded_done refl (code_nothing slot) a ws x.list t (rw (le-ltb (length x.words) 7 h) at e)
+      call_in x h (withdraw slot) nothing_said (withdraw_call (round_in x) slot) coded_done refl (code_nothing slot) a ws x.list t (rw (le-ltb (length x.words) 7 h) at e)
 
 -- ---- a list of calls
 
@@ -113,11 +111,11 @@ record CallsIn (x : Lent) (calls : List Call) (numbers : List ℕ) (y : Lent) : 
   made : AllMade (round_in x) calls answers (round_in y)
   said : numbers ≡ numbers_of calls answers
 
-calls_in : {x y : Lent} {calls : List Call} {numbers : List ℕ} (g : Ledger) → Shows (round_in x) g → 7 ≤ length x.words → AllMadeIn x calls numbers y → CallsIn x calls numbers y
-calls_in g shows h (none_in x) = record { answers = []; made = made_none (round_in x); said = refl }
-calls_in g shows h (next_in {x = x} {c = c} m ms) =
-    let one = one_in x g shows h m in
-    let rest = calls_in (fed g c (is_refusal one.w)) (made_step g shows one.made).1 one.long ms in
+calls_in : {x y : Lent} {calls : List Call} {numbers : List ℕ} → 7 ≤ length x.words → AllMadeIn x calls numbers y → CallsIn x calls numbers y
+calls_in h (none_in x) = record { answers = []; made = made_none (round_in x); said = refl }
+calls_in h (next_in {x = x} {c = c} m ms) =
+    let one = one_in x h m in
+    let rest = calls_in one.long ms in
     record { answers = one.w ∷ rest.answers; made = made_next one.made rest.made; said = λ i. one.said i ∷ rest.said i }
 
 -- ---- the open
@@ -148,5 +146,5 @@ module _ (key k n : ℕ) (x : Lent) (o : OpenedIn key k n x) where
 pub round_history : (key k n : ℕ) (x y : Lent) → OpenedIn key k n x → (calls : List Call) (numbers : List ℕ) → AllMadeIn x calls numbers y → RoundHistory key k n x calls numbers y
 round_history key k n x y o calls numbers m =
     let b = opens_in key k n x o in
-    let c = calls_in (first_ledger key k n) (open_shows key k n (round_in x) b.0) b.1 m in
+    let c = calls_in b.1 m in
     record { opens = b.0; answers = c.answers; made = c.made; said = c.said }

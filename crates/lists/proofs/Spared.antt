@@ -1,7 +1,7 @@
 -- What a call's law on its refusals gives: of a refusal that it said, and of a call that says the same in other words.
 -- Assumes nothing.
 use mathlib.Core.Path.{◌≡◌, refl, sym, ap, subst, ◌∙◌}
-use mathlib.Core.Bool.{true, true≢false}
+use mathlib.Core.Bool.{Bool, true, true≢false}
 use mathlib.Core.List.{List, [], ◌∷◌}
 use Prim.Native.Nat.{ℕ}
 use Rattle.lists.specs.Told.{Told, refusal, says, map_told}
@@ -38,12 +38,16 @@ pub spared_under : {A M N : Type 0} (f : M → N) (ws : List ℕ) (t : Told A) (
 spared_under f ws (refusal w) before now s = (s.0, ap f s.1)
 spared_under f ws (says x) before now s = tt
 
+-- What every number of a list passes, one of them passes.
+pub every_has : (p : ℕ → Bool) (ws : List ℕ) → every p ws ≡ true → (w : ℕ) → has w ws ≡ true → p w ≡ true
+every_has p [] e w h = absurd (true≢false (sym h ∙ has_no w [] refl))
+every_has p (v ∷ ws) e w h =
+    let a = all_every p (v ∷ ws) e in
+    by_same w v (λ s. ap p s ∙ a.0) (λ d. every_has p ws (every_all p ws a.1) w (sym (has_tail w v ws d) ∙ h))
+
 -- One may speak of more numbers than a call has.
 pub has_within : (vs ws : List ℕ) → every (λ v. has v ws) vs ≡ true → (w : ℕ) → has w vs ≡ true → has w ws ≡ true
-has_within [] ws e w h = absurd (true≢false (sym h ∙ has_no w [] refl))
-has_within (v ∷ vs) ws e w h =
-    let a = all_every (λ x. has x ws) (v ∷ vs) e in
-    by_same w v (λ s. rw s a.0) (λ d. has_within vs ws (every_all (λ x. has x ws) vs a.1) w (sym (has_tail w v vs d) ∙ h))
+has_within vs ws = every_has (λ v. has v ws) vs
 
 pub spared_within : {A M : Type 0} (vs ws : List ℕ) (t : Told A) (before now : M) → every (λ v. has v ws) vs ≡ true
     → Spares vs t before now → Spares ws t before now

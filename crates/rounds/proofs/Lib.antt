@@ -2,8 +2,9 @@ pub mod RoundLaws
 pub mod StepLaws
 pub mod LedgerLaws
 pub mod PlanLaws
+pub mod RefusedLaws
+pub mod FormLaws
 pub mod MadeLaws
-pub mod UnchangedLaws
 pub mod MoveLaws
 pub mod Demand3Laws
 pub mod ReplyLaws
@@ -15,4 +16,3 @@ pub mod RoundCallLaws
 pub mod DealLaws
 pub mod PlanCodeLaws
 pub mod ReplayTurns
-pub mod RefusedLaws

@@ -24,7 +24,7 @@ use Rattle.rounds.specs.Outcomes.{too_short, reply, Outcomes}
 use Rattle.rounds.proofs.RoundLaws.{actives_of, fits_kept}
 use Rattle.rounds.proofs.PlanLaws.{terminal_slot}
 use Rattle.rounds.proofs.MadeLaws.{reached_shows, reached_kept}
-use Rattle.rounds.proofs.UnchangedLaws.{refused_unchanged}
+use Rattle.rounds.proofs.FormLaws.{refused_unchanged}
 use Rattle.rounds.proofs.ReplyLaws.{reached_said}
 
 -- A round reached is never refused 12: no call,

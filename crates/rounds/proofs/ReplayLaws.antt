@@ -31,7 +31,8 @@ use Rattle.rounds.specs.Replays.{known, call_of, coded, coded_all, read_one, rea
 use Rattle.rounds.proofs.RoundLaws.{Kept, actives_of, Shows, open_shows}
 use Rattle.rounds.proofs.StepLaws.{possible, Refuses, Takes, outcome, step, step_bytes}
 use Rattle.rounds.proofs.PlanLaws.{plan_is}
-use Rattle.rounds.proofs.MadeLaws.{all_made_shows, calls_made}
+use Rattle.rounds.proofs.FormLaws.{calls_made}
+use Rattle.rounds.proofs.MadeLaws.{all_made_shows}
 use Rattle.rounds.proofs.ReadLaws.{Readable, AllReadable, read_one_lem, read_all_lem, drop_all, answer_readable}
 
 -- ---- every answer can be read
@@ -136,7 +137,7 @@ module _ (key k n : ℕ) (s : State) (o : Opens key k n s) (xs : List Call) (ws 
   g = fed_all (first_ledger key k n) xs (refusals said)
 
   follows : Agree (first_ledger key k n) xs said × Shows (after_all s xs) g
-  follows = all_made_shows (first_ledger key k n) begins (calls_made xs s (first_ledger key k n) begins)
+  follows = all_made_shows (first_ledger key k n) begins (calls_made xs s)
 
   kept : Kept (after_all s xs)
   kept = follows.1.kept
