@@ -3,6 +3,7 @@
 -- Assumes nothing.
 use mathlib.Core.Path.{◌≡◌, refl}
 use mathlib.Core.List.{[], ◌∷◌}
+use lib.ListN.{take}
 use Prim.Native.Nat.{ℕ}
 use Rattle.lists.specs.Told.{says, refusal}
 use Rattle.lists.specs.Lists.{below, same, has}
@@ -31,3 +32,12 @@ short_list = refl
 pub long_list : reply reached 8192 512 admit ≡ says (64 ∷ 14 ∷ [])
 unfolding reply answer opening due kth P whole layer_of log2 below same has output counted zero_top top_bits layer start rounds round round_function next_key over rotate_right
 long_list = refl
+
+-- so their samples, and with them their plans, differ: 14 has gone out on the second alone
+pub short_sample : take 4 (P 0xC1B3_2827_47FD_4B1E 61) ≡ 49 ∷ 60 ∷ 34 ∷ 14 ∷ []
+unfolding P whole layer_of log2 below same has output counted zero_top top_bits layer start rounds round round_function next_key over rotate_right
+short_sample = refl
+
+pub long_sample : take 4 (P 0xC1B3_2827_47FD_4B1E 65) ≡ 49 ∷ 60 ∷ 64 ∷ 34 ∷ []
+unfolding P whole layer_of log2 below same has output counted zero_top top_bits layer start rounds round round_function next_key over rotate_right
+long_sample = refl

@@ -1,7 +1,8 @@
 -- A round from its open to its plan, computed on the definitions, against numbers of the original: nothing that is said of every
 -- list of calls is said of none.
 -- Assumes nothing.
-use mathlib.Core.Path.{◌≡◌, refl}
+use mathlib.Core.Path.{◌≡◌, refl, sym}
+use native.Mathlib.Omega.{arith}
 use mathlib.Core.List.{List, [], ◌∷◌}
 use mathlib.Core.Option.{some}
 use Prim.Native.Nat.{ℕ}
@@ -23,9 +24,9 @@ use Rattle.answers.specs.declared.Refusal.TheVariants.{SlotNotActive}
 use Rattle.rounds.specs.declared.round.Round.{Round}
 use Rattle.rounds.specs.Rounds.{State, state, fitting, open_call, after_open, admit_call, join_call, withdraw_call}
 use Rattle.rounds.specs.Ledgers.{Call, admit, join, withdraw, ledger, first_ledger, free_slot, accept, sheet, plan_from, ledger_plan, fed_all}
-use Rattle.rounds.specs.Plans.{terminal_of, plan_call, after_plan}
+use Rattle.rounds.specs.Plans.{terminal_of, plan_call, after_plan, shown_plan}
 use Rattle.rounds.specs.Histories.{Opens, AllMade, made_none, made_next, admit_left, join_left, join_returned, withdraw_returned, refusals, call, after_all, all_said}
-use Rattle.rounds.specs.Demand3.{Reached}
+use Rattle.rounds.specs.Demand3.{Reached, PlanOf}
 use Rattle.rounds.proofs.FormLaws.{calls_made}
 
 abbrev key : ℕ
@@ -112,3 +113,18 @@ fed_all_lem = refl
 pub ledger_plan_lem : ledger_plan (ledger key 2 14 (1 ∷ 0 ∷ []) 2) ≡ says (sheet 9 (some 0) ∷ sheet 13 (some 1) ∷ [])
 unfolding plan_from P whole layer_of log2 output counted zero_top top_bits layer start rounds round round_function next_key over rotate_right below slot_of slot_among state_of Q lacked has same S largest_g g prev_number prev hashes buckets bucket is_set bucket_hashes bucket_draws draws draw feed numbers later_numbers mix wrapping_mul
 ledger_plan_lem = refl
+
+-- so the round reached has a plan, as demand 3 has it
+pub plan_of : PlanOf end (says (sheet 9 (some 0) ∷ sheet 13 (some 1) ∷ []))
+unfolding shown_plan
+plan_of = record {
+  ls = 5 ∷ 5 ∷ 5 ∷ [];
+  ts = 6 ∷ 6 ∷ 6 ∷ [];
+  places = 3;
+  enough = record { locations = omega arith; terminals = omega arith; scratch = omega arith };
+  o = rust.Ok tt;
+  ls' = 9 ∷ 13 ∷ 5 ∷ [];
+  ts' = 0 ∷ 1 ∷ 6 ∷ [];
+  promise = sym planned;
+  is = refl;
+}

@@ -10,7 +10,8 @@ use lib.Dec.{ltb, leb}
 use lib.ListN.{length, get_or, take, drop, get_or-append, take-append-drop}
 use lib.Seq.{take-suc, length-take-le, get_or-take, get_or-append_seam}
 use Rattle.lists.proofs.Keeping.{both}
-use Rattle.lists.proofs.Ascending.{Ascending, length_snoc, ascending_nil, ascending_snoc, ascending_last, ascending_init, rises_ge}
+use Rattle.lists.specs.Lists.{Ascending}
+use Rattle.lists.proofs.Ascending.{length_snoc, ascending_nil, ascending_snoc, ascending_last, ascending_init, rises_ge}
 use Rattle.choosers.specs.declared.choose_k.ConsistentChooseKHasher.{ConsistentChooseKHasher}
 use Rattle.choosers.specs.ChooserCalls.{samples_of, ascends, fitting}
 

@@ -9,10 +9,10 @@ use native.Mathlib.Nat.{add-zero}
 use borrow.Author.Tests.{eq-eqb, eqb-true}
 use lib.Dec.{eqb}
 use lib.ListN.{length, get_or}
-use Rattle.lists.specs.Lists.{last}
+use Rattle.lists.specs.Lists.{last, Ascending}
 use Rattle.lists.proofs.Tests.{by_test}
 use Rattle.lists.proofs.Keeping.{both}
-use Rattle.lists.proofs.Ascending.{Ascending, rises_ge, rises_gap}
+use Rattle.lists.proofs.Ascending.{rises_ge, rises_gap}
 use Rattle.choosers.specs.ChooserCalls.{counts_from}
 
 counts_all : (a : ℕ) (xs : List ℕ) → ((i : ℕ) → i < length xs → get_or xs i 0 ≡ a + i) → counts_from a xs ≡ true

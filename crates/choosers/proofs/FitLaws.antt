@@ -11,9 +11,8 @@ use lib.Dec.{ltb, leb, eqb}
 use lib.ListN.{length}
 use lib.Seq.{length-take-le}
 use Rattle.lists.specs.Told.{says}
-use Rattle.lists.specs.Lists.{last, written}
+use Rattle.lists.specs.Lists.{last, written, Ascending}
 use Rattle.lists.proofs.Tests.{by_cond, by_below}
-use Rattle.lists.proofs.Ascending.{Ascending}
 use Rattle.lists.proofs.Writing.{written_take, length_written}
 use Rattle.choosers.specs.declared.choose_k.ConsistentChooseKHasher.{ConsistentChooseKHasher}
 use Rattle.choosers.specs.Choosers.{grow, shrink}

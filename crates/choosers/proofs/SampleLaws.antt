@@ -4,10 +4,10 @@ use mathlib.Core.Path.{◌≡◌, refl, sym, ap, ◌∙◌}
 use Prim.Native.Nat.{ℕ, zero, suc, ◌+◌, ◌-◌, ◌≤◌, ◌<◌}
 use native.Mathlib.Omega.{arith}
 use lib.ListN.{length}
-use Rattle.lists.specs.Lists.{zero_to}
+use Rattle.lists.specs.Lists.{zero_to, Ascending}
 use Rattle.lists.proofs.Tests.{by_below}
 use Rattle.lists.proofs.Ranges.{zero_to_suc}
-use Rattle.lists.proofs.Ascending.{length_snoc, Ascending, ascending_nil, ascending_snoc}
+use Rattle.lists.proofs.Ascending.{length_snoc, ascending_nil, ascending_snoc}
 use Rattle.hashes.specs.Hashes.{feed}
 use Rattle.hashes.proofs.LargestLaws.{prev_below, prev_same}
 use Rattle.choosers.specs.Choosers.{g, largest_g, S}

@@ -9,9 +9,9 @@ use borrow.Author.Tests.{lt-ltb, le-ltb}
 use lib.Dec.{eqb-suc-zero}
 use lib.ListN.{length}
 use lib.Seq.{get_or_at, append_snoc}
-use Rattle.lists.specs.Lists.{last}
+use Rattle.lists.specs.Lists.{last, Ascending}
 use Rattle.lists.proofs.Tests.{by_below}
-use Rattle.lists.proofs.Ascending.{length_snoc, last_snoc, Ascending, ascending_nil, ascending_snoc, ascending_init, ascending_last}
+use Rattle.lists.proofs.Ascending.{length_snoc, last_snoc, ascending_nil, ascending_snoc, ascending_init, ascending_last}
 use Rattle.choosers.specs.Choosers.{g, Moved, larger, lower_at, lower, shrink, grow}
 use Rattle.choosers.proofs.SampleLaws.{g_lt, g_ge}
 use Rattle.choosers.proofs.LoweringLaws.{lower_on, lower_stop}

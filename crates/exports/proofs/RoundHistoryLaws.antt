@@ -1,11 +1,13 @@
 -- Calls on a round that stands in words are calls as demand 3 has them.
 -- Assumes nothing.
 use mathlib.Core.Path.{◌≡◌, refl, sym, ap, subst, ◌∙◌}
+use mathlib.Core.Bool.{false}
 use mathlib.Core.List.{List, [], ◌∷◌}
 use mathlib.Core.Option.{Option, none, some}
-use Prim.Native.Nat.{ℕ, ◌+◌, ◌*◌, ◌/◌, ◌%◌, ◌^◌, ◌≤◌}
+use Prim.Native.Nat.{ℕ, ◌+◌, ◌-◌, ◌*◌, ◌/◌, ◌%◌, ◌^◌, ◌≤◌}
 use native.Mathlib.Omega.{arith}
-use borrow.Author.Tests.{lt-ltb, le-ltb}
+use borrow.Author.Tests.{lt-ltb, le-ltb, ne_eqb}
+use lib.Dec.{eqb}
 use lib.ListN.{length}
 use Rattle.lists.specs.Told.{Told, refusal, says, map_told}
 use Rattle.lists.specs.Lists.{written}
@@ -16,12 +18,20 @@ use Rattle.rounds.specs.declared.round.Round.{Round}
 use Rattle.rounds.specs.Rounds.{State, state, AfterOpen, after_open, open_call, After, admit_call, join_call, withdraw_call}
 use Rattle.rounds.specs.Ledgers.{Call, admit, join, withdraw, exchanged}
 use Rattle.rounds.specs.Histories.{slot_said, nothing_said, Opens, Made, AllMade, made_none, made_next, valued, call}
-use Rattle.rounds.proofs.FormLaws.{call_made, refused_unchanged}
+use Rattle.rounds.proofs.FormLaws.{told_back, numbered, call_made, refused_unchanged}
 use Rattle.exports.specs.Coded.{coded_done, coded_number}
 use Rattle.exports.specs.Reservoirs.{coded_exchange}
 use Rattle.exports.specs.Crossings.{Crossed, crossed, words_after}
 use Rattle.exports.specs.Rounds.{round_words, round_as, words_opened, open_crossed, CrossedRound, crossed_round, left_as, admit_crossed, join_crossed, withdraw_crossed}
-use Rattle.exports.specs.RoundHistories.{Lent, lent, round_in, OpenedIn, MadeIn, admit_in, join_in, withdraw_in, AllMadeIn, none_in, next_in, number_of, numbers_of, RoundHistory}
+use Rattle.exports.specs.RoundHistories.{Lent, lent, round_in, OpenedIn, MadeIn, admit_in, join_in, withdraw_in, AllMadeIn, none_in, next_in, number_of, numbers_of, plan_said, PlannedIn, RoundHistory}
+use Rattle.answers.specs.Refusals.{told}
+use Rattle.answers.proofs.Tolds.{refusal_of, back}
+use Rattle.lists.specs.Lists.{every}
+use Rattle.rounds.specs.RefusedBy.{plan_refusals}
+use Rattle.rounds.proofs.RefusedLaws.{plan_spares}
+use Rattle.rounds.specs.Plans.{AfterPlan, after_plan, plan_call, shown_plan}
+use Rattle.rounds.specs.Demand3.{PlanOf}
+use Rattle.exports.specs.Rounds.{CrossedPlan, crossed_plan, plan_crossed}
 
 -- ---- the words read back as the record
 
@@ -39,14 +49,14 @@ long_after ws (refusal c) r h = h
 
 module _ (s : State) (c : Call) (ws : List ℕ) (is : round_as ws ≡ s.round) where
   -- the words after a call hold the record after it
-  back_by : (w : Told (List ℕ)) → (call s c).told ≡ w → round_as (words_after ws w (round_words (call s c).state.round)) ≡ (call s c).state.round
-  back_by (says vs) e = round_back (call s c).state.round ws
-  back_by (refusal n) e =
+  words_by : (w : Told (List ℕ)) → (call s c).told ≡ w → round_as (words_after ws w (round_words (call s c).state.round)) ≡ (call s c).state.round
+  words_by (says vs) e = round_back (call s c).state.round ws
+  words_by (refusal n) e =
       let m : Made s c (refusal n) (call s c).state = subst (λ (w : Told (List ℕ)). Made s c w (call s c).state) e (call_made s c) in
       is ∙ sym (ap (λ (z : State). z.round) (refused_unchanged m))
 
-  back : round_as (words_after ws (call s c).told (round_words (call s c).state.round)) ≡ (call s c).state.round
-  back = back_by (call s c).told refl
+  words_back : round_as (words_after ws (call s c).told (round_words (call s c).state.round)) ≡ (call s c).state.round
+  words_back = words_by (call s c).told refl
 
 -- what is so of a call: it is made on the round in x, its answer is a, and enough words stand there still
 record CallIn (x : Lent) (c : Call) (a : ℕ) (y : Lent) : Type 0 where
@@ -70,7 +80,7 @@ module _ (x : Lent) (h : 7 ≤ length x.words) (c : Call) {B : Type 0} (f : B �
       let words : ws ≡ words_after x.words z.told (round_words z.state.round) =
       ap (λ (r : CrossedRound). r.words) e ∙ after_map f x.words (round_words b.state.round) b.told
       ∙ ap (λ (q : After (List ℕ)). words_after x.words q.told (round_words q.state.round)) is_call in
-      let round : round_as ws ≡ z.state.round = ap round_as words ∙ back (round_in x) c x.words refl in
+      let round : round_as ws ≡ z.state.round = ap round_as words ∙ words_back (round_in x) c x.words refl in
       let list : l ≡ z.state.list = ap (λ (r : CrossedRound). r.list) e ∙ ap (λ (q : After (List ℕ)). q.state.list) is_call in
       let table : t ≡ z.state.table = ap (λ (r : CrossedRound). r.table) e ∙ ap (λ (q : After (List ℕ)). q.state.table) is_call in
       let left : z.state ≡ state (round_as ws) l t = λ i. state (sym round i) (sym list i) (sym table i) in
@@ -107,16 +117,17 @@ module _ (x : Lent) (h : 7 ≤ length x.words) where
 -- ---- a list of calls
 
 record CallsIn (x : Lent) (calls : List Call) (numbers : List ℕ) (y : Lent) : Type 0 where
+  long : 7 ≤ length y.words
   answers : List (Told (List ℕ))
   made : AllMade (round_in x) calls answers (round_in y)
   said : numbers ≡ numbers_of calls answers
 
 calls_in : {x y : Lent} {calls : List Call} {numbers : List ℕ} → 7 ≤ length x.words → AllMadeIn x calls numbers y → CallsIn x calls numbers y
-calls_in h (none_in x) = record { answers = []; made = made_none (round_in x); said = refl }
+calls_in h (none_in x) = record { long = h; answers = []; made = made_none (round_in x); said = refl }
 calls_in h (next_in {x = x} {c = c} m ms) =
     let one = one_in x h m in
     let rest = calls_in one.long ms in
-    record { answers = one.w ∷ rest.answers; made = made_next one.made rest.made; said = λ i. one.said i ∷ rest.said i }
+    record { long = rest.long; answers = one.w ∷ rest.answers; made = made_next one.made rest.made; said = λ i. one.said i ∷ rest.said i }
 
 -- ---- the open
 
@@ -142,9 +153,42 @@ module _ (key k n : ℕ) (x : Lent) (o : OpenedIn key k n x) where
       absurd (omega (arith, ap (λ (z : Crossed). z.answer) e)))
       (λ h. opens_by h opened.told refl (rw (le-ltb (length o.words) 7 h) at o.promise))
 
--- THE THEOREM. From an open that answered 0, a list of functions called is a list of calls made.
+-- ---- the plan
+
+module _ (x : Lent) (h : 7 ≤ length x.words) (a : ℕ) (ls' ts' : List ℕ) (p : PlannedIn x a ls' ts') where
+  abbrev plan_left : AfterPlan
+  plan_left = plan_call (round_in x) p.ls p.ts p.places
+
+  -- by what it said
+  said_by : (t : Told (Unit {0})) → a ≡ coded_done t → shown_plan (round_in x).round.k (after_plan t ls' ts') ≡ plan_said (round_in x).round.k a ls' ts'
+  unfolding shown_plan
+  said_by (says u) e = rw e refl
+  said_by (refusal w) e =
+      let n : eqb a 0 ≡ false = ne_eqb a 0 (λ z. omega arith) in
+      let m : a - 2 ^ 63 ≡ w = omega (arith, e) in
+      rw (n, m) refl
+
+  plan_in : PlanOf (round_in x) (plan_said (round_in x).round.k a ls' ts')
+  unfolding plan_crossed every refusal_of
+  plan_in =
+      let e : crossed_plan a ls' ts' ≡ crossed_plan (coded_done plan_left.told) plan_left.locations plan_left.terminals = rw (le-ltb (length x.words) 7 h) at p.promise in
+      let told_is : plan_left.told ≡ told (back plan_left.told) =
+      told_back plan_left.told (numbered plan_refusals plan_left.told (after_plan plan_left.told p.ls p.ts) plan_left refl (plan_spares (round_in x) p.ls p.ts p.places)) in
+      record {
+        ls = p.ls;
+        ts = p.ts;
+        places = p.places;
+        enough = p.enough;
+        o = back plan_left.told;
+        ls' = ls';
+        ts' = ts';
+        promise = λ i. after_plan (sym told_is i) (ap (λ (z : CrossedPlan). z.locations) e i) (ap (λ (z : CrossedPlan). z.terminals) e i);
+        is = ap (λ (t : Told (Unit {0})). shown_plan (round_in x).round.k (after_plan t ls' ts')) (sym told_is) ∙ said_by plan_left.told (ap (λ (z : CrossedPlan). z.answer) e);
+      }
+
+-- THE THEOREM. From an open that answered 0, a list of functions called is a list of calls made, and a plan after it is the round's.
 pub round_history : (key k n : ℕ) (x y : Lent) → OpenedIn key k n x → (calls : List Call) (numbers : List ℕ) → AllMadeIn x calls numbers y → RoundHistory key k n x calls numbers y
 round_history key k n x y o calls numbers m =
     let b = opens_in key k n x o in
     let c = calls_in b.1 m in
-    record { opens = b.0; answers = c.answers; made = c.made; said = c.said }
+    record { opens = b.0; answers = c.answers; made = c.made; said = c.said; planned = plan_in y c.long }

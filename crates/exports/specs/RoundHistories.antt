@@ -1,12 +1,14 @@
 -- Demand 3 of a round that a program in C or Rust keeps in seven words: its calls are calls as demand 3 has them.
 -- Assumes nothing.
-use Rattle.std.specs.Prelude.{◌≡◌, cond, List, [], ◌∷◌, ℕ, ◌+◌, ◌*◌, ◌^◌, eqb, length, get_or}
+use Rattle.std.specs.Prelude.{◌≡◌, cond, List, [], ◌∷◌, ℕ, ◌+◌, ◌-◌, ◌*◌, ◌^◌, eqb, length, take, get_or}
 use Rattle.lists.specs.Told.{Told, refusal, says}
 use Rattle.rounds.specs.Rounds.{State, state}
-use Rattle.rounds.specs.Ledgers.{Call, admit, join, withdraw}
+use Rattle.rounds.specs.Ledgers.{Call, admit, join, withdraw, Sheet}
+use Rattle.rounds.specs.Plans.{sheets}
+use Rattle.rounds.specs.Demand3.{Enough, PlanOf}
 use Rattle.rounds.specs.Histories.{Opens, AllMade}
 use Rattle.exports.specs.Crossings.{crossed}
-use Rattle.exports.specs.Rounds.{round_as, open_crossed, crossed_round, admit_crossed, join_crossed, withdraw_crossed}
+use Rattle.exports.specs.Rounds.{round_as, open_crossed, crossed_round, admit_crossed, join_crossed, withdraw_crossed, crossed_plan, plan_crossed}
 
 -- what the program keeps: the record's words, the list and the table
 pub record Lent : Type 0 where
@@ -51,9 +53,27 @@ numbers_of [] ws = []
 numbers_of (c ∷ cs) [] = []
 numbers_of (c ∷ cs) (w ∷ ws) = number_of c w ∷ numbers_of cs ws
 
--- The round in x is opened, the calls are calls so made, and the numbers are their answers: so all of demand 3 holds of the round in y.
+-- ---- the plan after them
+
+-- what a plan's answer and its two lists say, of k locations
+abbrev pub plan_said : ℕ → ℕ → List ℕ → List ℕ → Told (List Sheet)
+plan_said k a ls ts = cond (eqb a 0) (says (sheets (take k ls) (take k ts))) (refusal (a - 2 ^ 63))
+
+-- `perillajamb_round_plan` was called on x, with lists and scratch long enough: it answered a and left the two lists, by its promise
+pub record PlannedIn (x : Lent) (a : ℕ) (ls' ts' : List ℕ) : Type 0 where
+  pub ls : List ℕ
+  pub ts : List ℕ
+  pub places : ℕ
+  pub enough : Enough (round_in x).round.k (length x.table) ls ts places
+  pub promise : crossed_plan a ls' ts' ≡ plan_crossed x.words x.list x.table ls ts places
+
+-- ---- the statement
+
+-- The round in x is opened, the calls are calls so made, and the numbers are their answers; a plan after them is a plan of the round in
+-- y. So all of demand 3 holds of it.
 pub record RoundHistory (key k n : ℕ) (x : Lent) (calls : List Call) (numbers : List ℕ) (y : Lent) : Type 0 where
   pub opens : Opens key k n (round_in x)
   pub answers : List (Told (List ℕ))
   pub made : AllMade (round_in x) calls answers (round_in y)
   pub said : numbers ≡ numbers_of calls answers
+  pub planned : (a : ℕ) (ls ts : List ℕ) → PlannedIn y a ls ts → PlanOf (round_in y) (plan_said (round_in y).round.k a ls ts)

@@ -26,16 +26,10 @@ use Rattle.lines.specs.Replies as Replies
 use Rattle.lines.specs.Sessions.{Site, site, replied, replaced, open_line, admit_line, join_line, withdraw_line, plan_line, World, world, answered, respond, after_lines}
 use Rattle.lines.specs.declared.commands.Command.{Command}
 use Rattle.lines.specs.declared.commands.Command.TheVariants as command
+use Rattle.lines.specs.Plans.{Reaches, SiteReached, Roomy}
 use Rattle.std.specs.Prelude.{Option, Some, None}
 
 -- ---- every round that lines lead to is reached by calls from an accepted open
-
-abbrev pub Reaches : Option Round → List ℕ → List ℕ → Type 0
-Reaches None l t = Unit {0}
-Reaches (Some r) l t = Reached (state r l t)
-
-abbrev pub SiteReached : Site → Type 0
-SiteReached s = Reaches s.current s.list s.table
 
 open_reaches : (key k n : ℕ) (s : Site) → SiteReached s → (o : Told Round) (l : List ℕ) → open_call key k n s.list ≡ after_open o l → SiteReached (replaced s o l).site
 open_reaches key k n s h (refusal w) l e = h
@@ -190,12 +184,6 @@ k_within s kept =
     let r = reservoir_of s.round in
     let f = fits_parts r s.list (fitting_kept r s.list kept.list) in
     omega (arith, used_some r s.list f, f.shape.used_le)
-
--- the plan's two lists are no shorter than the round's list, and there is a place of scratch for each byte of the table
-pub record Roomy (w : World) : Type 0 where
-  pub locations : length w.site.list ≤ length w.locations
-  pub terminals : length w.site.list ≤ length w.terminals
-  pub scratch : length w.site.table ≤ w.places
 
 roomy_enough : (v : World) (r : Round) → Kept (state r v.site.list v.site.table) → Roomy v
     → Enough r.k (length v.site.table) v.locations v.terminals v.places

@@ -7,7 +7,7 @@ use native.Mathlib.Omega.{arith}
 use native.Mathlib.Decide.{le_ind}
 use lib.ListN.{length, get_or, take, get_or-append}
 use lib.Seq.{get_or_at, get_or-take, length-take-le}
-use Rattle.lists.specs.Lists.{last}
+use Rattle.lists.specs.Lists.{last, Ascending}
 use Rattle.lists.proofs.Tests.{by_below}
 
 pub length_snoc : (l : List ℕ) (x : ℕ) → length (l ++ (x ∷ [])) ≡ suc (length l)
@@ -17,11 +17,6 @@ length_snoc (y ∷ l) x = ap suc (length_snoc l x)
 pub last_snoc : (l : List ℕ) (x : ℕ) → last (l ++ (x ∷ [])) ≡ x
 unfolding last
 last_snoc l x = get_or_at l x [] 0 (length (l ++ (x ∷ [])) - 1) (omega (arith, length_snoc l x))
-
--- strictly ascending, and below n
-pub record Ascending (l : List ℕ) (n : ℕ) : Type 0 where
-  pub rises : (i j : ℕ) → i < j → j < length l → get_or l i 0 < get_or l j 0
-  pub below : (i : ℕ) → i < length l → get_or l i 0 < n
 
 pub ascending_nil : (n : ℕ) → Ascending [] n
 ascending_nil n = record { rises = λ i j h e. absurd (omega arith); below = λ i e. absurd (omega arith) }

@@ -1,6 +1,6 @@
 -- Lists of numbers by a test: the words that the definitions of the crates above are written in.
 -- Assumes nothing.
-use Rattle.std.specs.Prelude.{◌≡◌, Bool, true, false, cond, ◌&&◌, not, List, [], ◌∷◌, ◌++◌, ℕ, zero, suc, ◌-◌, max, min, length, drop, get_or, ltb, leb, eqb}
+use Rattle.std.specs.Prelude.{◌≡◌, Bool, true, false, cond, ◌&&◌, not, List, [], ◌∷◌, ◌++◌, ℕ, zero, suc, ◌-◌, ◌<◌, max, min, length, drop, get_or, ltb, leb, eqb}
 use Rattle.std.proofs.Math.Option
 use Rattle.std.proofs.Math.Option.{Option, none, some}
 
@@ -132,6 +132,11 @@ find p (x ∷ xs) =
 -- the first entry of xs that ys lacks, 0 where it lacks none
 unfoldable pub lacked : List ℕ → List ℕ → ℕ
 lacked xs ys = Option.get_or (find (λ x. not (has x ys)) xs) 0
+
+-- strictly ascending, and below n
+pub record Ascending (l : List ℕ) (n : ℕ) : Type 0 where
+  pub rises : (i j : ℕ) → i < j → j < length l → get_or l i 0 < get_or l j 0
+  pub below : (i : ℕ) → i < length l → get_or l i 0 < n
 
 -- from the list l to the list l' the number v comes in, o goes out, and the others keep their order
 pub record Exchanges (l l' : List ℕ) (v o : ℕ) : Type 0 where

@@ -71,6 +71,7 @@ module _ (r : ConsistentReservoir) (l : List ℕ) (k0 : 0 < r.k) (k_le : r.k ≤
           key_is = refl;
           k_is = refl;
           n_is = rw v_due refl;
+          layer_is = rw at refl;
           kept = written_kept (key_of r) r.k (v + 1) i u (take u xs) l k0 (omega (arith, c.next.large)) s i-le (sym end_length) t;
         })
 
@@ -128,8 +129,8 @@ module _ (r : ConsistentReservoir) (l : List ℕ) (s : Kept r l) (full : r.used 
       ∙ sym (rw e at g)
 
   -- none takes more: the same list is that of layer 14, and nothing is due
-  none_kept : ((u : ℕ) → j_of r < u → u < suc (j_of r) + (14 - j_of r) → ltb r.k (length (up_to_zeros (key_of r) u r.k)) ≡ false) → Admits r (admit_at r l none)
-  none_kept z =
+  none_kept : ends_at r ≡ none → ((u : ℕ) → j_of r < u → u < suc (j_of r) + (14 - j_of r) → ltb r.k (length (up_to_zeros (key_of r) u r.k)) ≡ false) → Admits r (admit_at r l none)
+  none_kept at z =
       let e : suc (j_of r) + (14 - j_of r) ≡ 15 = omega (arith, s.j_le) in
       let h : (u : ℕ) → suc (j_of r) ≤ u → u < suc (j_of r) + (14 - j_of r) → inputs_at (key_of r) u r.k ≡ r.k = (λ u c d. just_k u c (z u c d)) in
       let g : held_at (key_of r) (suc (j_of r) + (14 - j_of r)) r.k r.n ≡ held_at (key_of r) (suc (j_of r)) r.k r.n =
@@ -141,6 +142,7 @@ module _ (r : ConsistentReservoir) (l : List ℕ) (s : Kept r l) (full : r.used 
         key_is = refl;
         k_is = refl;
         n_is = rw d refl;
+        layer_is = rw at refl;
         kept = record {
           some_k = s.some_k;
           k_le = s.k_le;
@@ -167,7 +169,7 @@ module _ (r : ConsistentReservoir) (l : List ℕ) (s : Kept r l) (full : r.used 
       ) in
       subst (λ (o : Option ℕ). Short r l (admit_at r l o) ⊎ Admits r (admit_at r l o)) (sym f)
       (exchange_kept r l s.some_k s.k_le i (omega (arith, up i a)) (omega arith) (rw (le-ltb r.k r.used full) f) (grown (key_of r) i r.k (listed r l)) g long))
-      (λ f z. subst (λ (o : Option ℕ). Short r l (admit_at r l o) ⊎ Admits r (admit_at r l o)) (sym f) (inr (none_kept z)))
+      (λ f z. subst (λ (o : Option ℕ). Short r l (admit_at r l o) ⊎ Admits r (admit_at r l o)) (sym f) (inr (none_kept (rw (le-ltb r.k r.used full) f) z)))
 
 -- ---- admit
 

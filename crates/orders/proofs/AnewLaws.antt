@@ -20,7 +20,7 @@ use Rattle.lists.proofs.Replacing.{replace_length}
 use Rattle.lists.proofs.Searching.{by_first}
 use Rattle.orders.specs.declared.consistent_reservoir.ConsistentReservoir.{ConsistentReservoir}
 use Rattle.orders.specs.Orders.{layer_of}
-use Rattle.orders.specs.Reservoirs.{opening, outputs, up_to_zeros, grown, wider, held, due, kth, in_and_out}
+use Rattle.orders.specs.Reservoirs.{opening, outputs, up_to_zeros, grown, wider, held, due, kth}
 use Rattle.orders.specs.ReservoirCalls.{key_of, j_of, listed, reservoir_of, After, after, refused, exchange_by, exchange, admit_at, admit_call}
 use Rattle.orders.specs.Admissions.{Kept, Opened, ends_at, Short, Admits}
 use Rattle.orders.proofs.LogLaws.{pow_up, layer_fits, layer_least, layer_in}
@@ -122,11 +122,11 @@ module _ (r : ConsistentReservoir) (l : List ℕ) where
   -- at layer i it is refused 4, or a number comes in
   abbrev AtLayer : Option ℕ → After (Option (ℕ × ℕ)) → Type 0
   AtLayer none a = a ≡ after (says none) (reservoir_of (key_of r) r.k r.n 14 r.used) l
-  AtLayer (some i) a = (a ≡ refused 4 r l) ⊎ ((j_of a.reservoir ≡ i) × (p : ℕ × ℕ) × (a.told ≡ says (some p)))
+  AtLayer (some i) a = (a ≡ refused 4 r l) ⊎ ((p : ℕ × ℕ) × (a.told ≡ says (some p)))
 
   exchange_at : (i : ℕ) (xs : List ℕ) → AtLayer (some i) (exchange r i xs l)
   unfolding exchange exchange_by
-  exchange_at i xs = by_cond (AtLayer (some i)) (ltb (length l) _) _ _ (λ y. inl refl) (λ n. inr (refl, _, refl))
+  exchange_at i xs = by_cond (AtLayer (some i)) (ltb (length l) _) _ _ (λ y. inl refl) (λ n. inr (_, refl))
 
   at_wider : (o : Option ℕ) → AtLayer o (admit_at r l o)
   at_wider none = refl
@@ -169,7 +169,7 @@ module _ (r : ConsistentReservoir) (l : List ℕ) (s : Kept r l) (b : Bool) (now
     leaves_none : (o : Option ℕ) → AtLayer r l o a → a ≡ after (says none) (reservoir_of (key_of r) r.k r.n 14 r.used) l
     leaves_none none e = e
     leaves_none (some i) (inl e) = not_said 4 none (sym (ap (λ (z : After (Option (ℕ × ℕ))). z.told) e) ∙ says_none)
-    leaves_none (some i) (inr e) = absurd (none_not_pair e.1 (said_same none (some e.1) (sym says_none ∙ e.2)))
+    leaves_none (some i) (inr e) = absurd (none_not_pair e.0 (said_same none (some e.0) (sym says_none ∙ e.1)))
 
     none_due : AdmitAnew r l b a
     none_due =
@@ -190,9 +190,7 @@ module _ (r : ConsistentReservoir) (l : List ℕ) (s : Kept r l) (b : Bool) (now
     layer_now h none e q =
         absurd (none_not_pair (v, kth (key_of r) r.k r.n)
         (said_same none (some (v, kth (key_of r) r.k r.n)) (sym (ap (λ (z : After (Option (ℕ × ℕ))). z.told) q) ∙ h.told_is ∙ rw d refl)))
-    layer_now h (some i) e (inl q) =
-        not_said 4 (in_and_out (key_of r) r.k r.n (due (key_of r) r.k r.n)) (sym (ap (λ (z : After (Option (ℕ × ℕ))). z.told) q) ∙ h.told_is)
-    layer_now h (some i) e (inr q) = q.0 ∙ ends_layer r l s b now v d i e
+    layer_now h (some i) e q = h.layer_is ∙ rw e (ends_layer r l s b now v d i e)
 
     lists_now : Admits r a → Anew a.reservoir a.list false
     lists_now h =

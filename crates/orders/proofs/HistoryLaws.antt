@@ -20,6 +20,7 @@ use Rattle.orders.specs.Orders.{P}
 use Rattle.orders.specs.Reservoirs.{grown, held}
 use Rattle.orders.specs.ReservoirCalls.{key_of, j_of, listed, sample, fitting, AfterOpen, after_open, reservoir_of, open_call, After, after, refused, admit_call, grow_to, grow_layer_call}
 use Rattle.orders.specs.Histories.{Call, admit, grow_layer, ReservoirState, state_after, step_by, after_all}
+use Rattle.orders.proofs.MemoryLaws.{written_rest, admit_spares}
 use Rattle.orders.specs.Admissions.{Kept, Opened, Short, Admits, AdmissionHolds, Grows, GrowthHolds}
 use Rattle.orders.proofs.LogLaws.{pow_up}
 use Rattle.orders.proofs.DueLaws.{due_holds}
@@ -51,6 +52,7 @@ module _ (r : ConsistentReservoir) (l : List ℕ) where
         sample_is = ap (keep (below r.n)) (written_take next l) ∙ grow_sample r (j_of r + 1) l s full (omega arith) (omega arith);
         kept = λ k. written_kept (key_of r) r.k r.n (j_of r + 1) (length next) next l k.some_k k.k_le nj j1 refl
             (grown_held r l k full (j_of r + 1) (omega arith) j1 (λ u a b. absurd (omega arith)));
+        past_used = written_rest next l (length next) refl;
       })
 
   unfit : fitting r l ≡ false → grow_layer_call r l ≡ refused 12 r l
@@ -153,4 +155,5 @@ admission k n key l t is_open cs =
       due_is = due_holds (key_of r) r.k r.n;
       outcome = admit_kept now.reservoir now.list s.kept;
       sample_is = λ h. admit_changes now.reservoir now.list s.kept a.reservoir a.list h.kept h.key_is h.k_is _ refl h.n_is;
+      past_used = admit_spares r now.list;
     }

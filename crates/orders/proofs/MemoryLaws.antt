@@ -11,7 +11,6 @@ use borrow.Author.Tests.{ltb-false}
 use lib.Dec.{ltb, eqb}
 use lib.ListN.{length, take, drop, length-take}
 use lib.Seq.{drop_at, length-take-le}
-use Rattle.lists.specs.Told.{Told, refusal, says}
 use Rattle.lists.specs.Lists.{standing, written}
 use Rattle.lists.proofs.Tests.{by_cond}
 use Rattle.lists.proofs.Standing.{standing_le}
@@ -19,14 +18,11 @@ use Rattle.lists.proofs.Writing.{length_written}
 use Rattle.orders.specs.declared.consistent_reservoir.ConsistentReservoir.{ConsistentReservoir}
 use Rattle.orders.specs.Reservoirs.{counts, opening, incoming, grown, wider}
 use Rattle.orders.specs.ReservoirCalls.{key_of, j_of, listed, fitting, AfterOpen, open_call, After, exchange_by, exchange, admit_at, admit_call, grow_to, grow_layer_call}
+use Rattle.orders.specs.Admissions.{PastUsed, OpenedPast}
 use Rattle.orders.specs.InnerPasses.{low_of}
 use Rattle.orders.proofs.AdmitLaws.{here_done, admit_longer}
 
--- past its used length the list is as it was
-abbrev pub Spares : {A : Type 0} → List ℕ → After A → Type 0
-Spares l a = drop a.reservoir.used a.list ≡ drop a.reservoir.used l
-
-written_rest : (xs l : List ℕ) (u : ℕ) → length xs ≡ u → drop u (written xs l) ≡ drop u l
+pub written_rest : (xs l : List ℕ) (u : ℕ) → length xs ≡ u → drop u (written xs l) ≡ drop u l
 unfolding written
 written_rest xs l u e = drop_at xs (drop (length xs) l) u e ∙ ap (λ (i : ℕ). drop i l) e
 
@@ -35,12 +31,8 @@ either : {A : Type 0} (P : A → Type 0) (b : Bool) (x y : A) → P x → P y �
 either P true x y p q = p
 either P false x y p q = q
 
--- an open: a refusal leaves the list, and past the used length it is as it was
-abbrev pub left : List ℕ → Told ConsistentReservoir → List ℕ → Type 0
-left l (refusal c) l' = l' ≡ l
-left l (says r) l' = drop r.used l' ≡ drop r.used l
-
-pub open_spares : (k n key : ℕ) (l : List ℕ) → left l (open_call k n key l).told (open_call k n key l).list
+-- an open
+pub open_spares : (k n key : ℕ) (l : List ℕ) → OpenedPast l (open_call k n key l).told (open_call k n key l).list
 unfolding open_call
 open_spares k n key l =
     either spares (ltb (2 ^ 30) n) _ _ refl
@@ -49,35 +41,35 @@ open_spares k n key l =
     (either spares (ltb (length l) (length (opening key k n))) _ _ refl (written_rest (opening key k n) l (length (opening key k n)) refl))))
   where
     spares : AfterOpen → Type 0
-    spares o = left l o.told o.list
+    spares o = OpenedPast l o.told o.list
 
-exchange_spares : (r : ConsistentReservoir) (i : ℕ) (xs l : List ℕ) → Spares l (exchange r i xs l)
+exchange_spares : (r : ConsistentReservoir) (i : ℕ) (xs l : List ℕ) → PastUsed l (exchange r i xs l)
 unfolding exchange exchange_by
 exchange_spares r i xs l =
     let v : ℕ = incoming r.n xs in
     let u : ℕ = standing (counts (v + 1)) r.k xs (length xs - 1) in
-    either (Spares l) (ltb (length l) u) _ _ refl
+    either (PastUsed l) (ltb (length l) u) _ _ refl
     (written_rest (take u xs) l u (length-take-le u xs (omega (arith, standing_le (counts (v + 1)) r.k xs (length xs - 1)))))
 
-at_spares : (r : ConsistentReservoir) (l : List ℕ) (o : Option ℕ) → Spares l (admit_at r l o)
+at_spares : (r : ConsistentReservoir) (l : List ℕ) (o : Option ℕ) → PastUsed l (admit_at r l o)
 at_spares r l none = refl
 at_spares r l (some i) = exchange_spares r i (grown (key_of r) i r.k (listed r l)) l
 
-pub admit_spares : (r : ConsistentReservoir) (l : List ℕ) → Spares l (admit_call r l)
+pub admit_spares : (r : ConsistentReservoir) (l : List ℕ) → PastUsed l (admit_call r l)
 unfolding admit_call
 admit_spares r l =
-    either (Spares l) (fitting r l) _ _
-    (either (Spares l) (ltb r.k r.used) _ _ (exchange_spares r (j_of r) (listed r l) l) (at_spares r l (wider (key_of r) r.k (j_of r))))
+    either (PastUsed l) (fitting r l) _ _
+    (either (PastUsed l) (ltb r.k r.used) _ _ (exchange_spares r (j_of r) (listed r l) l) (at_spares r l (wider (key_of r) r.k (j_of r))))
     refl
 
-pub grow_spares : (r : ConsistentReservoir) (l : List ℕ) → Spares l (grow_layer_call r l)
+pub grow_spares : (r : ConsistentReservoir) (l : List ℕ) → PastUsed l (grow_layer_call r l)
 unfolding grow_layer_call grow_to
 grow_spares r l =
     let xs : List ℕ = grown (key_of r) (j_of r + 1) r.k (listed r l) in
-    either (Spares l) (fitting r l) _ _
-    (either (Spares l) (ltb r.k r.used) _ _ refl
-    (either (Spares l) (eqb (j_of r) 14) _ _ refl
-    (either (Spares l) (ltb (length l) (length xs)) _ _ refl (written_rest xs l (length xs) refl))))
+    either (PastUsed l) (fitting r l) _ _
+    (either (PastUsed l) (ltb r.k r.used) _ _ refl
+    (either (PastUsed l) (eqb (j_of r) 14) _ _ refl
+    (either (PastUsed l) (ltb (length l) (length xs)) _ _ refl (written_rest xs l (length xs) refl))))
     refl
 
 -- an admit that does not grow leaves every place

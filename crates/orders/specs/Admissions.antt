@@ -1,10 +1,10 @@
 -- Document 01, "A plan call, followed downwards", the end of **Reservoir**, with the words of **Ledger**: what an admit of a record reached
--- from open says and leaves, by the orders alone. The whole claim is `AdmissionHolds`, and `admission` (proofs/HistoryLaws.antt) its proof.
--- Rounds rest on this file.
+-- from open says and leaves, by the orders alone: `AdmissionHolds`; and what a growth of any record does: `GrowthHolds`. Their proofs are
+-- `admission` and `growth` (proofs/HistoryLaws.antt). Rounds rest on this file.
 -- Assumes nothing.
-use Rattle.std.specs.Prelude.{◌≡◌, ◌⊎◌, true, false, cond, List, ℕ, suc, ◌+◌, ◌^◌, ◌≤◌, ◌<◌, ltb, length}
-use Rattle.std.proofs.Math.Option.{Option, none, some}
-use Rattle.lists.specs.Told.{says}
+use Rattle.std.specs.Prelude.{◌≡◌, ◌⊎◌, true, false, cond, List, ℕ, suc, ◌+◌, ◌^◌, ◌≤◌, ◌<◌, ltb, length, drop}
+use Rattle.std.proofs.Math.Option.{Option, none, some, get_or}
+use Rattle.lists.specs.Told.{Told, refusal, says}
 use Rattle.lists.specs.Lists.{Exchanges}
 use Rattle.orders.specs.declared.consistent_reservoir.ConsistentReservoir.{ConsistentReservoir}
 use Rattle.orders.specs.Orders.{layer_of}
@@ -42,7 +42,7 @@ ChangesBy before now (some p) = Exchanges before now p.0 p.1
 
 -- ---- a record reached from open
 
--- record and list
+-- what holds of a record and its list after an accepted open and any admits and grow_layers
 pub record Kept (r : ConsistentReservoir) (l : List ℕ) : Type 0 where
   -- nothing of refusal 12: "k 0 or above n, n above 4^(j+1), j above 14, a used length .. past its list"
   pub some_k : 0 < r.k
@@ -87,8 +87,19 @@ pub record Admits (r : ConsistentReservoir) (a : After (Option (ℕ × ℕ))) : 
   pub key_is : key_of a.reservoir ≡ key_of r
   pub k_is : a.reservoir.k ≡ r.k
   pub n_is : a.reservoir.n ≡ n_after r.n (due (key_of r) r.k r.n)
+  -- "becomes the layer"; with none "j becomes 14"
+  pub layer_is : j_of a.reservoir ≡ get_or (ends_at r) 14
   -- "the list holds P(4^(j+1)) .. up to and with its k-th number below n", of the new n
   pub kept : Kept a.reservoir a.list
+
+-- "No call writes a place past the used length it ends with.": there the list is as it was
+abbrev pub PastUsed : {A : Type 0} → List ℕ → After A → Type 0
+PastUsed l a = drop a.reservoir.used a.list ≡ drop a.reservoir.used l
+
+-- the same of an open, whose refusal leaves the whole list
+abbrev pub OpenedPast : List ℕ → Told ConsistentReservoir → List ℕ → Type 0
+OpenedPast l (refusal c) l' = l' ≡ l
+OpenedPast l (says r) l' = drop r.used l' ≡ drop r.used l
 
 -- ---- the whole claim
 
@@ -106,6 +117,8 @@ pub record Admission (key k : ℕ) (r : ConsistentReservoir) (l : List ℕ) (a :
   pub outcome : Short r l a ⊎ Admits r a
   -- demand 3: "An admit changes the sample by exactly the two locations it names, one out and one in, or not at all"
   pub sample_is : Admits r a → ChangesBy (sample r l) (sample a.reservoir a.list) (in_and_out (key_of r) r.k r.n (due (key_of r) r.k r.n))
+  -- "No call writes a place past the used length it ends with."
+  pub past_used : PastUsed l a
 
 -- from an accepted open, after any list of admits and grow_layers, refused ones among them
 abbrev pub AdmissionHolds : Type 0
@@ -125,6 +138,7 @@ pub record Grows (r : ConsistentReservoir) (l : List ℕ) (a : After (Unit {0}))
   pub j_is : j_of a.reservoir ≡ j_of r + 1
   pub sample_is : sample a.reservoir a.list ≡ sample r l
   pub kept : Kept r l → Kept a.reservoir a.list
+  pub past_used : PastUsed l a
 
 -- any record and list: the growth is refused, which changes nothing, or it grows
 abbrev pub GrowthHolds : Type 0

@@ -201,7 +201,7 @@ unfolding all_said after_all
 together_next s t x xs q h = record { answers = λ i. q i ∷ h.answers i; one = h.one; other = h.other; alike = h.alike }
 
 same_after : (s t : State) (calls : List Call) → Together s t calls → SameAfter s t calls
-same_after s t calls h = record { answers = h.answers; plans = same_plan (after_all s calls) (after_all t calls) h.one h.other h.alike }
+same_after s t calls h = record { answers = h.answers; alike = h.alike; plans = same_plan (after_all s calls) (after_all t calls) h.one h.other h.alike }
 
 same_together : (calls : List Call) (s t : State) → Reached s → Reached t → Alike s t → length s.list ≡ length t.list → length s.table ≡ length t.table → Together s t calls
 same_together [] s t r u e l b = together_none s t r u e

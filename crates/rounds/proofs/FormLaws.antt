@@ -87,11 +87,11 @@ all_made (made_next {s = s} {x = x} {xs = xs} m ms) =
     ((λ i. (e i).told ∷ (rest.0 ∙ ap (λ (a : After (List ℕ)). all_said a.state xs) e) i), rest.1 ∙ ap (λ (a : After (List ℕ)). after_all a.state xs) e)
 
 -- where a refusal has one of the twelve numbers, an answer is told back
-abbrev Numbered : {A : Type 0} → Told A → Type 0
+abbrev pub Numbered : {A : Type 0} → Told A → Type 0
 Numbered (refusal c) = number (refusal_of c) ≡ c
 Numbered (says x) = Unit {0}
 
-told_back : {A : Type 0} (w : Told A) → Numbered w → w ≡ told (back w)
+pub told_back : {A : Type 0} (w : Told A) → Numbered w → w ≡ told (back w)
 unfolding back
 told_back (refusal c) h = ap refusal (sym h)
 told_back (says x) h = refl
@@ -103,7 +103,7 @@ exchange_told_back (says none) h = refl
 exchange_told_back (says (some p)) h = refl
 
 -- the refusals of the calls have such numbers
-numbered : {A M : Type 0} (ws : List ℕ) (t : Told A) (before now : M) → every (λ w. eqb (number (refusal_of w)) w) ws ≡ true → Spares ws t before now → Numbered t
+pub numbered : {A M : Type 0} (ws : List ℕ) (t : Told A) (before now : M) → every (λ w. eqb (number (refusal_of w)) w) ws ≡ true → Spares ws t before now → Numbered t
 numbered ws (refusal c) before now e s = eqb-true (number (refusal_of c)) c (every_has (λ w. eqb (number (refusal_of w)) w) ws e c s.0)
 numbered ws (says x) before now e s = tt
 

@@ -11,9 +11,10 @@ use Rattle.rounds.specs.Demand3.{Reached, PlanOf, Alike}
 
 -- ---- what two terminals have in common
 
--- the same answers to a list of calls, refusals among them, and the same plan after it
+-- the same answers to a list of calls, refusals among them; after it they are alike still, and have the same plan
 pub record SameAfter (s t : State) (calls : List Call) : Type 0 where
   pub answers : all_said s calls ≡ all_said t calls
+  pub alike : Alike (after_all s calls) (after_all t calls)
   pub plans : (p q : Told (List Sheet)) → PlanOf (after_all s calls) p → PlanOf (after_all t calls) q → p ≡ q
 
 -- no answer is refusal 4 or 9
