@@ -1,5 +1,5 @@
 -- Two terminals whose lists have different lengths, computed on the definitions: with 64 places the third admit is refused, with 8,192 it is
--- not, and from then on their plans differ.
+-- not, and after it their samples differ.
 -- Assumes nothing.
 use mathlib.Core.Path.{◌≡◌, refl}
 use mathlib.Core.List.{[], ◌∷◌}

@@ -40,7 +40,7 @@ withdraw x h = slots_after (remove_call h.map h.table x)
 abbrev pub three_joins : ℕ → ℕ → ℕ → Slots
 three_joins a b c = join (join (join (record { map = map_of 0; table = a ∷ b ∷ c ∷ [] })))
 
--- the same of a round: of one location of one, whatever the key and the table's bytes
+-- a round's record
 abbrev pub round_of : ℕ → ℕ → ℕ → ℕ → ℕ → ℕ → Round
 round_of key k n j used total = record { master_key = key; k = k; n = n; j_max = j; used = used; total = total }
 
@@ -50,6 +50,7 @@ joined s = (join_call s).state
 abbrev pub withdrawn : ℕ → State → State
 withdrawn x s = (withdraw_call s x).state
 
+-- "Three joins" of a round of one location of one, whatever the key and the table's bytes
 abbrev pub three_joined : ℕ → ℕ → ℕ → ℕ → State
 three_joined key a b c = joined (joined (joined (state (round_of key 1 1 0 1 0) (0 ∷ []) (a ∷ b ∷ c ∷ []))))
 
@@ -86,7 +87,7 @@ pub record Table : Type 0 where
   -- "List 7, 1, 5, 2 with k = 2, n = 3, j = 1: admit in 5, out 2, list 7, 1, 5, n 6.", under every key: the fourth place of
   -- the list is not in use afterwards, and nothing is written
   pub admit_5 : (key : ℕ) → admit_call (reservoir_of key 2 3 1 4) (7 ∷ 1 ∷ 5 ∷ 2 ∷ []) ≡ after (says (some (5, 2))) (reservoir_of key 2 6 1 3) (7 ∷ 1 ∷ 5 ∷ 2 ∷ [])
-  -- The last two rows of the round's calls, which rest on those of its slot map and its reservoir.
+  -- The last two rows once more, of the round's own calls.
   pub round_count_1_2 : (key a b c : ℕ) → (withdrawn 2 (withdrawn 1 (three_joined key a b c))).round ≡ round_of key 1 1 0 1 2
   pub round_join_1_2 : (key a b c : ℕ) → (join_call (withdrawn 2 (withdrawn 1 (three_joined key a b c)))).told ≡ says 1
   pub round_count_2_1 : (key a b c : ℕ) → (withdrawn 1 (withdrawn 2 (three_joined key a b c))).round ≡ round_of key 1 1 0 1 1

@@ -6,14 +6,14 @@ use Rattle.std.specs.Prelude.{List, [], ◌∷◌, ℕ}
 abbrev pub prev_refusals : List ℕ
 prev_refusals = 1 ∷ []
 
--- `next`
+-- `next`. 1, as above
 abbrev pub next_refusals : List ℕ
 next_refusals = 1 ∷ []
 
--- both walks' `new`
+-- both walks' `new`. 1, as above
 abbrev pub walk_refusals : List ℕ
 walk_refusals = 1 ∷ []
 
--- the falling walk's `next`; the rising walk's is not refused
+-- the falling walk's `next`. 1, as above: of a record made by hand. The rising walk's is not refused.
 abbrev pub fall_refusals : List ℕ
 fall_refusals = 1 ∷ []

@@ -22,7 +22,7 @@ abbrev pub NeverShort : List (Told (List ℕ)) → Type 0
 NeverShort [] = Unit {0}
 NeverShort (w ∷ ws) = (w ≢ refusal 4) × (w ≢ refusal 9) × NeverShort ws
 
--- whether an admit said none
+-- whether a call is an admit that said none
 abbrev pub is_none : Call → Told (List ℕ) → Bool
 is_none admit (says []) = true
 is_none admit (says (v ∷ vs)) = false
@@ -30,12 +30,14 @@ is_none admit (refusal w) = false
 is_none join w = false
 is_none (withdraw x) w = false
 
+-- whether one of the calls is
 abbrev pub said_none : List Call → List (Told (List ℕ)) → Bool
 said_none [] ws = false
 said_none (x ∷ xs) [] = false
 said_none (x ∷ xs) (w ∷ ws) = is_none x w || said_none xs ws
 
--- o, just opened, has the record and the listed numbers of s. But after an admit that said none the layer of s is 14; and o has no slot.
+-- o, just opened, has key, k, n, used length and listed numbers of s, and its layer; but after an admit that said none the layer of s is
+-- 14. And o has no slot.
 pub record AsOpened (o s : State) (none_said : Bool) : Type 0 where
   pub key : s.round.master_key ≡ o.round.master_key
   pub k : s.round.k ≡ o.round.k
@@ -54,7 +56,8 @@ pub record Fleet : Type 0 where
   -- With lists and tables of any lengths they stay so where no call of either is refused 4 or 9.
   pub never_parted : (s t : State) → Reached s → Reached t → Alike s t
       → (calls : List Call) → NeverShort (all_said s calls) → NeverShort (all_said t calls) → SameAfter s t calls
-  -- A round reached is what an open at its n gives, and the terminals' joins: so a terminal that was off comes up to date.
+  -- Key, k, n, used length and listed numbers of a round reached are what an open at its n gives, and its layer but after an admit that
+  -- said none: with the joins that lead to the same active terminals, and `same_answers`, a terminal that was off comes up to date.
   pub opened_anew : (s : State) (h : Reached s) (o : State) → Opens s.round.master_key s.round.k s.round.n o → AsOpened o s (said_none h.calls h.answers)
   -- Two rounds just opened with the same key, k and n are alike.
   pub opened_alike : (key k n : ℕ) (s t : State) → Opens key k n s → Opens key k n t → Alike s t

@@ -29,6 +29,7 @@ abbrev pub taken_in : Progress → List ℕ → Progress
 taken_in s [] = ended s
 taken_in s (b ∷ l) = fed s (b ∷ l)
 
+-- what was put out is written, so that there is no text any more
 abbrev pub emptied : Progress → Progress
 emptied s = progress s.world s.held []
 
