@@ -7,5 +7,7 @@ pub mod RunLaws
 pub mod ChooserCrossLaws
 pub mod SlotCrossLaws
 pub mod RoundCrossLaws
+pub mod TooFewLaws
 pub mod RefusedLaws
+pub mod RoundRefusedLaws
 pub mod RoundHistoryLaws

@@ -1,5 +1,5 @@
 -- The refusals of each call for C and Rust that has others than the library's call it makes, in the order in which they come; and what holds
--- of each that may be refused. That it has no others is the law of its list in proofs/RefusedLaws.antt.
+-- of each that may be refused. That it has no others is the law of its list in proofs/RefusedLaws.antt, of rounds in RoundRefusedLaws.antt.
 -- Assumes nothing.
 use Rattle.std.specs.Prelude.{◌≡◌, cond, List, [], ◌∷◌, ℕ, ltb, length}
 use Rattle.lists.specs.Told.{Told, refusal}
