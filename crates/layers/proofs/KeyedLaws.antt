@@ -3,7 +3,7 @@
 use Rattle.std.proofs.Common.{◌≡◌, ℕ, suc, ◌+◌, ◌-◌, ◌%◌, ◌<◌, arith}
 use Rattle.layers.specs.Layer.{round_count, start, round_function, round, rounds, layer}
 use Rattle.layers.specs.KeyedLayers.{keyed_layer, new_right, applied}
-use Rattle.layers.proofs.RowLaws.{four_rounds}
+use Rattle.layers.proofs.FormulaLaws.{four_rounds}
 
 -- the record's keys are those of the key schedule, so that its four rounds are the first four
 scheduled : (j n key x : ℕ) → round_count j ≡ suc (suc (suc (suc n))) → (j + 1) % 16 ≡ j + 1 → applied (keyed_layer j key) x ≡ layer j key x

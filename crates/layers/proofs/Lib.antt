@@ -2,6 +2,6 @@ pub mod RoundLaws
 pub mod Inverse
 pub mod Permutes
 pub mod KeyedLaws
-pub mod RowLaws
+pub mod FormulaLaws
 pub mod CallLaws
 pub mod RefusedLaws

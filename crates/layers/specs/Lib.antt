@@ -3,5 +3,4 @@ pub mod Calls
 pub mod KeyedLayers
 pub mod Permutations
 pub mod RefusedBy
-pub mod InnerRows
 pub mod InnerRounds

@@ -89,6 +89,24 @@ impl HalfBits {
         t
     }
 
+    // n rounds, for loops over many inputs. Most layers have none here, and none has more than eight: these are turns of a known
+    // number, so that what they take of their keys is worked out once for all inputs.
+    pub(crate) fn more_rounds(self, n: u32, s: Halves) -> Halves
+        ensures { result ≡ rounds self.bits n s }
+    {
+        if n == 0 {
+            return s;
+        }
+        let mut t = s;
+        for i in 0..8 {
+            if i == n {
+                return t;
+            }
+            t = self.round(t);
+        }
+        self.rounds(n - 8, t)
+    }
+
     // l over r.
     pub(crate) fn over(self, s: Halves) -> u32
         requires { Within self.bits s }

@@ -2,7 +2,7 @@
 #![tactic(auto)]
 
 mod feistel;
-mod rows;
+mod formulas;
 
 ghost use Rattle.std.specs.Prelude.{◌≡◌, ◌<◌};
 ghost use Rattle.answers.specs.Refusals.{told};
@@ -45,20 +45,19 @@ pub struct KeyedLayer {
     pub key: u64,
 }
 
-// The record of a layer, from its row.
-fn keyed_of(layer: usize, key: u64) -> KeyedLayer
+fn keyed_of(layer: u32, key: u64) -> KeyedLayer
     requires { layer < 15 }
     ensures { result ≡ keyed_layer layer key }
 {
-    let row = rows::row_of(layer);
-    let half = HalfBits::new(row.bits / 2);
+    let bits = formulas::bits(layer) / 2;
+    let half = HalfBits::new(bits);
     let k1 = half.next_key(key);
     let k2 = half.next_key(k1);
     let k3 = half.next_key(k2);
     KeyedLayer {
-        half: row.bits / 2,
-        size: row.size,
-        more: row.rounds - 4,
+        half: bits,
+        size: formulas::size(layer),
+        more: formulas::rounds(layer) - 4,
         first: RoundKey::from(key),
         second: RoundKey::from(k1),
         third: RoundKey::from(k2),
@@ -78,7 +77,7 @@ impl KeyedLayer {
         if Self::LAYER_LIMIT < layer {
             return Err(Refusal::Misfit);
         }
-        Ok(keyed_of(layer as usize, key))
+        Ok(keyed_of(layer, key))
     }
 
     // The layer at x, which counts modulo the size: of the record of layer j, layer j at x; of any other, what its numbers give.
@@ -97,7 +96,7 @@ impl KeyedLayer {
             r: d,
             key: self.key,
         };
-        half.over(half.rounds(self.more, four))
+        half.over(half.more_rounds(self.more, four))
     }
 }
 
@@ -110,9 +109,9 @@ pub fn layer_apply(layer: u32, key: u64, x: u32) -> Result<u32, Refusal>
     if KeyedLayer::LAYER_LIMIT < layer {
         return Err(Refusal::Misfit);
     }
-    let row = rows::row_of(layer as usize);
-    if row.size <= x {
+    if formulas::size(layer) <= x {
         return Err(Refusal::Misfit);
     }
-    Ok(HalfBits::new(row.bits / 2).network(row.rounds, key, x))
+    let half = HalfBits::new(formulas::bits(layer) / 2);
+    Ok(half.network(formulas::rounds(layer), key, x))
 }
