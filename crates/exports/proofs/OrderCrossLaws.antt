@@ -7,7 +7,8 @@ use borrow.Author.Tests.{lt-ltb, le-ltb}
 use lib.ListN.{length, take}
 use Rattle.lists.specs.Told.{Told, says, refusal}
 use Rattle.lists.specs.Lists.{written}
-use Rattle.std.specs.Prelude.{Result}
+use Rattle.std.specs.Prelude.{Result, Ok, Err, is_ok, cond}
+use Rattle.std.specs.Prelude as rust
 use Rattle.lists.specs.Lists.{zero_to}
 use Rattle.lists.proofs.Listing.{listing_at}
 use Rattle.lists.proofs.Writing.{sets, sets_written}
@@ -16,14 +17,14 @@ use borrow.Rule.Slice.PartMut.{put_mid}
 use Rattle.std.proofs.Common.{arith, ap, map, get_or, sym, ◌/◌, ◌∷◌, [], ◌++◌}
 use Rattle.orders.specs.OrderCalls.{key_of}
 use Rattle.answers.specs.declared.Refusal.{Refusal}
-use Rattle.answers.specs.Refusals.{told}
+use Rattle.answers.specs.Refusals.{told, told_option}
 use Rattle.orders.specs.declared.consistent_permutation.ConsistentPermutation.{ConsistentPermutation}
 use Rattle.orders.specs.Orders.{P}
-use Rattle.orders.specs.OrderCalls.{new_call}
+use Rattle.orders.specs.OrderCalls.{new_call, step, next_call}
 use Rattle.exports.specs.InnerRecords.{made_over}
-use Rattle.exports.specs.Coded.{coded_done, coded_number, fed_all, digest}
+use Rattle.exports.specs.Coded.{coded_done, coded_hash, coded_number, fed_all, digest}
 use Rattle.exports.specs.Crossings.{crossed_one, short_of}
-use Rattle.exports.specs.Orders.{order_words, started_as, new_order_crossed, next_order_crossed, order_digest}
+use Rattle.exports.specs.Orders.{order_words, order_as, started_as, new_order_crossed, next_order_crossed, order_digest}
 
 -- ---- the words
 
@@ -59,6 +60,12 @@ new_crosses n key ws ws' s a e h x y = rw (le-ltb (length ws) 18 h, ← e, x, y)
 pub next_short : (ws : List ℕ) (r : ℕ) → r ≡ 2 ^ 63 + 4 → length ws < 18 → crossed_one r ws ≡ next_order_crossed ws
 unfolding next_order_crossed
 next_short ws r e h = rw (e, lt-ltb (length ws) 18 h)
+
+pub next_crosses : (ws ws' : List ℕ) (g : Result (rust.Option ℕ) Refusal) (v : ConsistentPermutation) (x : ℕ) → step (told_option g) v ≡ next_call (order_as ws)
+    → ws' ≡ cond (is_ok g) (written (order_words v) ws) ws → x ≡ coded_hash (told_option g) → 18 ≤ length ws → crossed_one x ws' ≡ next_order_crossed ws
+unfolding next_order_crossed
+next_crosses ws ws' (Ok y) v x e w c h = rw (le-ltb (length ws) 18 h, ← e, w, c)
+next_crosses ws ws' (Err why) v x e w c h = rw (le-ltb (length ws) 18 h, ← e, w, c)
 
 -- ---- the first numbers, put together
 

@@ -4,7 +4,6 @@ pub mod Crossings
 pub mod Reservoirs
 pub mod Orders
 pub mod InnerRecords
-pub mod InnerRuns
 pub mod Chooser
 pub mod Slots
 pub mod Rounds

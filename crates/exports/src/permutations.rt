@@ -7,20 +7,13 @@ ghost use Rattle.answers.specs.Refusals.{told_option};
 ghost use Rattle.exports.specs.Coded.{coded_number, fed_all};
 ghost use Rattle.exports.specs.Crossings.{crossed_one};
 ghost use Rattle.exports.specs.InnerDigests.{fed_with};
-ghost use Rattle.exports.specs.InnerRuns.{ran_as, run_crossed};
 ghost use Rattle.exports.specs.Orders.{order_words, order_as, new_order_crossed, next_order_crossed, order_digest};
 
 use crate::records::Record;
 use crate::{parts, records};
 use answers::Refusal;
 use orders::consistent_permutation::ConsistentPermutation;
-
-// What some calls of `next` came to: the answer of the last, and a state fed with all numbers.
-#[derive(Clone, Copy)]
-pub struct Ran {
-    pub answer: u64,
-    pub fed: u64,
-}
+use orders::order_walk::OrderWalk;
 
 impl Record for ConsistentPermutation {
     type Word = u32;
@@ -71,26 +64,6 @@ fn fed_with(d: u64, said: Result<Option<u32>, Refusal>) -> u64
     }
 }
 
-// `count` calls of `next` on the order in the words. No other place calls it, so the compiler puts it into this loop, where the
-// counters need not go through memory.
-fn run(ws: &mut [u32], count: u32) -> Ran
-    requires { 18 ≤ length ws.old }
-    ensures { ran_as result ws.new ≡ run_crossed count ws.old }
-{
-    let mut order = ConsistentPermutation::loaded(ws);
-    let mut said = Ok(None);
-    let mut fed = 0;
-    for _ in 0..count {
-        said = order.next();
-        fed = fed_with(fed, said);
-    }
-    records::keep(said.is_ok(), order, ws);
-    Ran {
-        answer: parts::number_or_none(said),
-        fed,
-    }
-}
-
 // Its next number.
 pub fn perillajamb_order_next(ws: &mut [u32]) -> u64
     ensures { crossed_one result ws.new ≡ next_order_crossed ws.old }
@@ -98,17 +71,23 @@ pub fn perillajamb_order_next(ws: &mut [u32]) -> u64
     if ws.len() < 18 {
         return parts::refused(Refusal::ShortMemory);
     }
-    run(ws, 1).answer
+    let mut order = ConsistentPermutation::loaded(ws);
+    let said = order.next();
+    records::keep(said.is_ok(), order, ws);
+    parts::number_or_none(said)
 }
 
 fn numbers_fed(n: u32, key: u64, count: u32) -> u64
     requires { n ≤ 2 ^ 30 }
     ensures { result ≡ fed_all 0 (take count (P key n)) }
 {
-    let mut ws: [u32; 18] = [0; 18];
     let order = ConsistentPermutation::new(n, key).unwrap();
-    order.store(&mut ws);
-    run(&mut ws, count).fed
+    let mut walk = OrderWalk::new(order).unwrap();
+    let mut fed = 0;
+    for _ in 0..count {
+        fed = fed_with(fed, walk.next());
+    }
+    fed
 }
 
 // The first `count` numbers of the order of 0..n, as one number.

@@ -15,6 +15,15 @@ unfolding rounds
 rounds_step h zero s p = absurd (not-suc-le-zero p)
 rounds_step h (suc n) s p = let e : suc n - 1 ≡ n = omega arith in rw e
 
+-- four of them one by one
+pub rounds_four : (h n : ℕ) (s : Halves) → 4 ≤ n → rounds h n s ≡ rounds h (n - 4) (round h (round h (round h (round h s))))
+unfolding rounds
+rounds_four h (suc (suc (suc (suc n)))) s p = let e : suc (suc (suc (suc n))) - 4 ≡ n = omega arith in rw e
+rounds_four h (suc (suc (suc zero))) s p = absurd (omega arith)
+rounds_four h (suc (suc zero)) s p = absurd (omega arith)
+rounds_four h (suc zero) s p = absurd (omega arith)
+rounds_four h zero s p = absurd (omega arith)
+
 -- the low h bits of a word are those of its low 32 bits
 low_low : (s h : ℕ) → h ≤ 32 → s % 2 ^ 32 % 2 ^ h ≡ s % 2 ^ h
 low_low s h p =

@@ -1,5 +1,5 @@
 // Feistel rounds on two halves of a few bits.
-ghost use Rattle.std.specs.Prelude.{◌≡◌, ◌-◌, ◌*◌, ◌^◌, ◌<◌, bit_xor};
+ghost use Rattle.std.specs.Prelude.{◌≡◌, ◌-◌, ◌*◌, ◌^◌, ◌<◌, ◌≤◌, bit_xor};
 ghost use Rattle.layers.specs.Layer.{start, next_key, round, rounds, over};
 ghost use Rattle.layers.specs.KeyedLayers.{new_right};
 ghost use Rattle.layers.specs.InnerRounds.{Within};
@@ -91,6 +91,7 @@ impl HalfBits {
 
     // n rounds, for loops over many inputs. Most layers have none here, and none has more than eight: these are turns of a known
     // number, so that what they take of their keys is worked out once for all inputs.
+    #[inline(always)]
     pub(crate) fn more_rounds(self, n: u32, s: Halves) -> Halves
         ensures { result ≡ rounds self.bits n s }
     {
@@ -115,12 +116,16 @@ impl HalfBits {
         (s.l << self.bits) | s.r
     }
 
-    // A number through n rounds.
+    // A number through n rounds, the first four one by one.
     pub(crate) fn network(self, n: u32, key: u64, x: u32) -> u32
+        requires { 4 ≤ n }
         ensures { result ≡ over self.bits (rounds self.bits n (start self.bits key x)) }
     {
-        let s = self.start(key, x);
-        let t = self.rounds(n, s);
+        let a = self.round(self.start(key, x));
+        let b = self.round(a);
+        let c = self.round(b);
+        let d = self.round(c);
+        let t = self.rounds(n - 4, d);
         self.over(t)
     }
 }

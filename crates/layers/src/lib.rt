@@ -81,6 +81,7 @@ impl KeyedLayer {
     }
 
     // The layer at x, which counts modulo the size: of the record of layer j, layer j at x; of any other, what its numbers give.
+    #[inline(always)]
     pub fn apply(self, x: u32) -> u32
         ensures any { result ≡ applied self x }
         ensures layer { LayerAt self x result }

@@ -22,30 +22,37 @@ use Rattle.orders.proofs.WalkLaws.{counted_set}
 
 -- ---- the test
 
--- b and c tests from that of i up, as `b & p(i) & p(i+1) & ..` goes
-abbrev also : (ℕ → Bool) → Bool → ℕ → ℕ → Bool
-also p b i zero = b
-also p b i (suc c) = also p (b && p i) (suc i) c
+abbrev fitting : List ℕ → ℕ → Bool
+fitting cs j = leb (counter cs j) (size j)
+
+-- what a loop over the layers has still to test at layer i, after tests that came to b
+abbrev pub rest_within : List ℕ → Bool → ℕ → Bool
+rest_within cs b i = b && every (fitting cs) (from i (15 - i))
 
 and_assoc : (a b c : Bool) → ((a && b) && c) ≡ (a && (b && c))
 and_assoc true b c = refl
 and_assoc false b c = refl
 
-and_true : (b : Bool) → b ≡ (b && true)
+and_true : (b : Bool) → (b && true) ≡ b
 and_true true = refl
 and_true false = refl
 
-also_every : (p : ℕ → Bool) (b : Bool) (i c : ℕ) → also p b i c ≡ (b && every p (from i c))
+pub rest_start : (cs : List ℕ) → rest_within cs true 0 ≡ within cs
+unfolding within
+rest_start cs = refl
+
+every_turn : (p : ℕ → Bool) (b : Bool) (i n : ℕ) → i < n → ((b && p i) && every p (from (i + 1) (n - (i + 1)))) ≡ (b && every p (from i (n - i)))
 unfolding every
-also_every p b i zero = and_true b
-also_every p b i (suc c) = also_every p (b && p i) (suc i) c ∙ and_assoc b (p i) (every p (from (suc i) c))
+every_turn p b i n h =
+    let e : n - i ≡ suc (n - (i + 1)) = omega arith in
+    rw (e, add-one i) (and_assoc b (p i) (every p (from (suc i) (n - suc i))))
 
-abbrev fitting : List ℕ → ℕ → Bool
-fitting cs j = leb (counter cs j) (size j)
+pub rest_turn : (cs : List ℕ) (b : Bool) (i : ℕ) → i < 15 → rest_within cs (b && fitting cs i) (i + 1) ≡ rest_within cs b i
+rest_turn cs b i h = every_turn (fitting cs) b i 15 h
 
-pub fitting_all : (cs : List ℕ) → also (fitting cs) (fitting cs 0) 1 14 ≡ within cs
-unfolding within every
-fitting_all cs = also_every (fitting cs) (fitting cs 0) 1 14
+pub rest_end : (cs : List ℕ) (b : Bool) (i : ℕ) → 15 ≤ i → rest_within cs b i ≡ b
+unfolding every
+rest_end cs b i h = let e : 15 - i ≡ 0 = omega arith in rw e (and_true b)
 
 -- no counter is above its size
 pub within_at : (cs : List ℕ) → within cs ≡ true → (i : ℕ) → i < 15 → counter cs i ≤ size i

@@ -3,6 +3,7 @@ pub mod WalkLaws
 pub mod OrderLaws
 pub mod HeldLaws
 pub mod DueLaws
+pub mod FitLaws
 pub mod ReservoirLaws
 pub mod AdmissionLaws
 pub mod HistoryLaws

@@ -11,14 +11,14 @@ use native.Mathlib.Omega.{arith}
 use borrow.Author.Tests.{lt-ltb, le-ltb, lt-leb, eq-eqb, ne_eqb}
 use lib.ListN.{length, set}
 use lib.Seq.{get_or-set_same, set-get_or, set-set}
-use Rattle.lists.specs.Told.{refusal, says}
+use Rattle.lists.specs.Told.{Told, refusal, says}
 use Rattle.lists.specs.Lists.{below}
 use Rattle.lists.proofs.Tests.{below_yes, below_no, by_test, by_below}
 use Rattle.layers.specs.Layer.{size, layer}
 use Rattle.orders.specs.declared.consistent_permutation.ConsistentPermutation.{ConsistentPermutation}
 use Rattle.orders.specs.declared.counters.Walked.{Walked}
 use Rattle.orders.specs.Orders.{layer_of, counter, output, counted, zero_top, Draw, draw, next_number}
-use Rattle.orders.specs.OrderCalls.{order_of, key_of, step, within, meets, first_of, next_call}
+use Rattle.orders.specs.OrderCalls.{order_of, key_of, step, within, meets, first_of, next_call, tested}
 use Rattle.orders.specs.InnerCounters.{raises, walked, seek, walk_of, stop_of, lower_step, zero_step, top_step}
 use Rattle.orders.proofs.LogLaws.{size_limit, layer_in, layer_quarter}
 use Rattle.orders.proofs.WalkLaws.{next_set, next_low, next_high}
@@ -128,7 +128,7 @@ module _ (o : ConsistentPermutation) where
       (λ q. rw (high_meets (key_of o) o.counters j x l (omega arith) m, high_draw (key_of o) o.counters j x l m, below_no y o.n q)
       (first_seek j l b u c (suc x) (omega arith))))
 
-  pub first_walk : (j from : ℕ) (w : Walked) → j ≡ layer_of o.n → 0 < o.n → o.n ≤ 1073741824 → within o.counters ≡ true → length o.counters ≡ 15
+  pub first_walk : (j from : ℕ) (w : Walked) → j ≡ layer_of o.n → 0 < o.n → o.n ≤ 2 ^ 30 → within o.counters ≡ true → length o.counters ≡ 15
       → from ≡ counter o.counters j → w ≡ walk_of (key_of o) j o.n from
       → first_of o j (size j - counter o.counters j) o.counters ≡ top_step o j w
   unfolding walk_of
@@ -198,19 +198,36 @@ module _ (o : ConsistentPermutation) where
 
   -- ---- the call, outcome by outcome
 
-  pub next_unfit : within o.counters ≡ false → next_call o ≡ step (refusal 12) o
-  unfolding next_call
-  next_unfit e = rw e refl
+  -- the tests that come before the first output
+  pub record Passed : Type 0 where
+    pub fit : within o.counters ≡ true
+    pub limit : o.n ≤ 2 ^ 30
 
-  pub next_above : within o.counters ≡ true → 1073741824 < o.n → next_call o ≡ step (refusal 1) o
-  unfolding next_call
-  next_above e h = rw (e, lt-ltb 1073741824 o.n h) refl
+  pub tested_yes : says tt ≡ tested o → Passed
+  unfolding tested
+  tested_yes e =
+      by_test (within o.counters)
+      (λ f. by_below (2 ^ 30) o.n
+      (λ u. absurd (let z : says tt ≡ refusal 1 = rw (f, lt-ltb (2 ^ 30) o.n u) at e in cc))
+      (λ h. record { fit = f; limit = h }))
+      (λ f. absurd (let z : says tt ≡ refusal 12 = rw f at e in cc))
+
+  pub tested_no : (c : ℕ) → refusal c ≡ tested o → next_call o ≡ step (refusal c) o
+  unfolding tested next_call
+  tested_no c e =
+      by_test (within o.counters)
+      (λ f. by_below (2 ^ 30) o.n
+      (λ u. let z : ◌≡◌ {A = Told (Unit {0})} (refusal c) (refusal 1) = rw (f, lt-ltb (2 ^ 30) o.n u) at e in
+      let w : c ≡ 1 = cc in rw (f, lt-ltb (2 ^ 30) o.n u, w) refl)
+      (λ h. absurd (let z : ◌≡◌ {A = Told (Unit {0})} (refusal c) (says tt) = rw (f, le-ltb (2 ^ 30) o.n h) at e in cc)))
+      (λ f. let z : ◌≡◌ {A = Told (Unit {0})} (refusal c) (refusal 12) = rw f at e in
+      let w : c ≡ 12 = cc in rw (f, w) refl)
 
   pub next_empty : within o.counters ≡ true → o.n ≡ 0 → next_call o ≡ step (says none) o
   unfolding next_call
-  next_empty e z = rw (e, le-ltb 1073741824 o.n (omega arith), eq-eqb o.n 0 z) refl
+  next_empty e z = rw (e, le-ltb (2 ^ 30) o.n (omega arith), eq-eqb o.n 0 z) refl
 
-  pub next_first : (j : ℕ) → within o.counters ≡ true → o.n ≤ 1073741824 → (o.n ≡ 0 → ⊥) → j ≡ layer_of o.n
+  pub next_first : (j : ℕ) → within o.counters ≡ true → o.n ≤ 2 ^ 30 → (o.n ≡ 0 → ⊥) → j ≡ layer_of o.n
       → next_call o ≡ first_of o j (size j - counter o.counters j) o.counters
   unfolding next_call
-  next_first j e h z f = rw (e, le-ltb 1073741824 o.n h, ne_eqb o.n 0 z, f) refl
+  next_first j e h z f = rw (e, le-ltb (2 ^ 30) o.n h, ne_eqb o.n 0 z, f) refl

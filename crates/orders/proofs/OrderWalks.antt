@@ -18,7 +18,7 @@ use Rattle.lists.proofs.Turns.{Turn, ended, gave, all_answers}
 use Rattle.layers.specs.Layer.{size}
 use Rattle.orders.specs.declared.consistent_permutation.ConsistentPermutation.{ConsistentPermutation}
 use Rattle.orders.specs.Orders.{layer_of, counter, none_counted, next_number, next_numbers, whole, P}
-use Rattle.orders.specs.OrderCalls.{order_of, key_of, step, within, meets, first_of, next_call}
+use Rattle.orders.specs.OrderCalls.{order_of, key_of, step, within, meets, first_of, next_call, tested}
 use Rattle.orders.proofs.LogLaws.{size_suc, layer_in}
 use Rattle.orders.proofs.WalkLaws.{next_length}
 use Rattle.orders.proofs.SyncLaws.{Synced, synced_start, synced_counter, synced_le, next_above, Goes, goes}
@@ -73,6 +73,11 @@ rest_of o =
 pub record Going (o : ConsistentPermutation) : Type 0 where
   pub n_in : o.n ≤ 2 ^ 30
   pub walked : Walked (key_of o) (layer_of o.n) o.counters
+
+-- it passes the tests that come before the first output
+pub going_tested : (o : ConsistentPermutation) → Going o → tested o ≡ says tt
+unfolding tested
+going_tested o g = rw (walked_within (key_of o) (layer_of o.n) o.counters g.walked, le-ltb (2 ^ 30) o.n g.n_in) refl
 
 -- what a search through the next c numbers comes to
 data Comes (o : ConsistentPermutation) (j c : ℕ) (cs : List ℕ) : Type 0 where

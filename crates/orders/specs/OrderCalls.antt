@@ -2,7 +2,7 @@
 -- Assumes nothing.
 use Rattle.std.specs.Prelude.{Bool, cond, ◌&&◌, ◌||◌, List, ℕ, zero, suc, ◌-◌, ◌^◌, ltb, leb, eqb}
 use Rattle.std.proofs.Math.Option.{Option, none, some}
-use Rattle.lists.specs.Told.{Told, refusal, says}
+use Rattle.lists.specs.Told.{Told, refusal, says, map_told}
 use Rattle.lists.specs.Steps.{Step}
 use Rattle.lists.specs.Lists.{below, zero_to, every}
 use Rattle.layers.specs.Layer.{size}
@@ -56,3 +56,13 @@ next_call o =
     (cond (eqb o.n 0) (step (says none) o)
     (first_of o j (size j - counter o.counters j) o.counters)))
     (step (refusal 12) o)
+
+-- ---- many calls of next: the tests that come before the first output are made once
+
+-- 12: "any of the fifteen counters above its layer's size"; 1: "n above 2^30"
+unfoldable pub tested : ConsistentPermutation → Told (Unit {0})
+tested o = cond (within o.counters) (cond (ltb (2 ^ 30) o.n) (refusal 1) (says tt)) (refusal 12)
+
+-- the order, where it may be walked
+abbrev pub walk_call : ConsistentPermutation → Told ConsistentPermutation
+walk_call o = map_told (λ u. o) (tested o)

@@ -1,13 +1,14 @@
 // The order of document 01: each number below n once, by counters through the layers.
-ghost use Rattle.std.specs.Prelude.{◌≡◌, true, ◌-◌, ◌<◌, ◌≤◌};
+ghost use Rattle.std.specs.Prelude.{◌≡◌, true, ◌-◌, ◌^◌, ◌<◌, ◌≤◌};
 ghost use Rattle.answers.specs.Refusals.{told, told_option};
 ghost use Rattle.layers.specs.Layer.{size};
 ghost use Rattle.orders.specs.Orders.{layer_of, counter};
-ghost use Rattle.orders.specs.OrderCalls.{new_call, step, within, first_of, next_call};
+ghost use Rattle.orders.specs.OrderCalls.{new_call, step, within, first_of, next_call, tested};
 ghost use Rattle.orders.specs.InnerCounters.{lower_step};
 
 use crate::counters;
 use crate::layer::Layer;
+use crate::outputs::Outputs;
 use answers::Refusal;
 
 // An order and how far it was walked: a counter for each layer, the next input of that layer.
@@ -41,28 +42,59 @@ impl ConsistentPermutation {
     pub fn next(&mut self) -> Result<Option<u32>, Refusal>
         ensures { step (told_option result) self.new ≡ next_call self.old }
     {
-        if !self.fits() {
+        self.tested()?;
+        let top = self.top();
+        self.number(&top)
+    }
+
+    // The refusals of `next` that are known before the first output: 12, 1.
+    pub(crate) fn tested(&self) -> Result<(), Refusal>
+        ensures { told result ≡ tested self.now }
+    {
+        if !counters::within_sizes(&self.counters) {
             return Err(Refusal::Misfit);
         }
         if Self::N_LIMIT < self.n {
             return Err(Refusal::NAboveLimit);
         }
+        Ok(())
+    }
+
+    // The record of the layer of n.
+    pub(crate) fn top(&self) -> Outputs
+        requires { self.now.n ≤ 2 ^ 30 }
+        ensures layer { result.layer.number ≡ layer_of self.now.n }
+        ensures key { result.key ≡ self.now.master_key }
+    {
+        Outputs::new(Layer::of(self.n), self.master_key)
+    }
+
+    // The next number of an order that passes the tests, by the record of the layer of n.
+    pub(crate) fn number(&mut self, top: &Outputs) -> Result<Option<u32>, Refusal>
+        requires layer { top.now.layer.number ≡ layer_of self.old.n }
+        requires key { top.now.key ≡ self.old.master_key }
+        requires limit { self.old.n ≤ 2 ^ 30 }
+        requires fit { within self.old.counters ≡ true }
+        ensures { step (told_option result) self.new ≡ next_call self.old }
+    {
         if self.n == 0 {
             return Ok(None);
         }
-        self.first(Layer::of(self.n))
+        self.first(top)
     }
 
-    // The next number below n, j being the layer of n.
-    fn first(&mut self, j: Layer) -> Result<Option<u32>, Refusal>
-        requires layer { j.number ≡ layer_of self.old.n }
+    // The next number below n, n above 0.
+    fn first(&mut self, top: &Outputs) -> Result<Option<u32>, Refusal>
+        requires layer { top.now.layer.number ≡ layer_of self.old.n }
+        requires key { top.now.key ≡ self.old.master_key }
         requires some { 0 < self.old.n }
-        requires limit { self.old.n ≤ 1073741824 }
+        requires limit { self.old.n ≤ 2 ^ 30 }
         requires fit { within self.old.counters ≡ true }
-        ensures { step (told_option result) self.new ≡ first_of self.old j.number (size j.number - counter self.old.counters j.number) self.old.counters }
+        ensures { step (told_option result) self.new ≡ first_of self.old top.now.layer.number (size top.now.layer.number - counter self.old.counters top.now.layer.number) self.old.counters }
     {
-        let from = counters::counter_at(self.counters, j);
-        let w = counters::walk(j, self.master_key, self.n, from);
+        let j = top.layer;
+        let from = counters::counter_at(&self.counters, j);
+        let w = counters::walk(top, self.n, from);
         let Some(y) = w.number else {
             counters::set_counter(&mut self.counters, j, w.input);
             return Ok(None);
@@ -83,7 +115,7 @@ impl ConsistentPermutation {
         let below = Layer {
             number: top.number - 1,
         };
-        let Some(y) = counters::stop(self.master_key, below, self.counters) else {
+        let Some(y) = counters::stop(self.master_key, below, &self.counters) else {
             return Err(Refusal::Misfit);
         };
         counters::raise(&mut self.counters, Layer::of(y + 1), top, x);
@@ -94,7 +126,7 @@ impl ConsistentPermutation {
     pub fn fits(self) -> bool
         ensures { result ≡ within self.counters }
     {
-        counters::within_sizes(self.counters)
+        counters::within_sizes(&self.counters)
     }
 
     pub fn n(self) -> u32

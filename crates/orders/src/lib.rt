@@ -7,5 +7,6 @@ pub mod consistent_reservoir;
 mod counters;
 mod fills;
 mod layer;
+pub mod order_walk;
 mod outputs;
 mod scans;

@@ -6,4 +6,6 @@ use Rattle.orders.specs.InnerCounters.{seek, walk_of}
 use Rattle.orders.proofs.counters.walk.Given as goal
 
 abbrev pub invariant-loop-x : goal.invariant-loop-x
-invariant-loop-x l = seek l.key l.j.number l.n l.x (l.size - l.x) ≡ walk_of l.key l.j.number l.n l.from
+invariant-loop-x l =
+    let j = l.top.layer.number in
+    seek l.top.key j l.n l.x (l.size - l.x) ≡ walk_of l.top.key j l.n l.from

@@ -24,27 +24,27 @@ abbrev leaves : ConsistentPermutation → ℕ → Step ConsistentPermutation
 leaves o j = first_of o j (size j - counter o.counters j) o.counters
 
 -- what the walk found decides that
-top : (c : After-walk-w) → leaves c.args.self.now c.args.j.number ≡ top_step c.args.self.now c.args.j.number c.walk-w.result
+top : (c : After-walk-w) → leaves c.args.self.now c.args.top.now.layer.number ≡ top_step c.args.self.now c.args.top.now.layer.number c.walk-w.result
 top c =
     let r = c.requires in
     let fifteen : length c.args.self.now.counters ≡ 15 = search rules in
-    first_walk c.args.self.now c.args.j.number _ _ r.layer r.some r.limit r.fit fifteen c.counter_at-from.ensures c.walk-w.ensures
+    first_walk c.args.self.now c.args.top.now.layer.number _ _ r.layer r.some r.limit r.fit fifteen c.counter_at-from.ensures (rw r.key at c.walk-w.ensures)
 
 pub walk-w-requires : goal.walk-w-requires
 walk-w-requires c =
     let r = c.requires in
-    omega (arith, c.counter_at-from.ensures, within_at _ r.fit c.args.j.number c.args.j.below)
+    omega (arith, c.counter_at-from.ensures, within_at _ r.fit c.args.top.now.layer.number c.args.top.now.layer.below)
 
 pub returns-in_default : goal.returns-in_default
 returns-in_default c =
     let o = c.args.self.now in
     ap (λ (ds : List ℕ). step (says none) (order_of (key_of o) o.n ds)) c.set_counter.ensures
-    ∙ sym (top (goal.at.returns-in_default c).After-walk-w ∙ top_none o c.args.j.number c.walk-w.result c.in_default.is)
+    ∙ sym (top (goal.at.returns-in_default c).After-walk-w ∙ top_none o c.args.top.now.layer.number c.walk-w.result c.in_default.is)
 
 pub returns-then-quarter-y : goal.returns-then-quarter-y
 returns-then-quarter-y c =
     let o = c.args.self.now in
-    let j = c.args.j.number in
+    let j = c.args.top.now.layer.number in
     let w = c.walk-w.result in
     let y = c.in-Some.y in
     let is : top_step o j w ≡ step (says (some y)) (order_of (key_of o) o.n (set o.counters j w.input)) =
@@ -59,7 +59,7 @@ returns-then-quarter-y c =
 pub returns : goal.returns
 returns c =
     let o = c.args.self.now in
-    let j = c.args.j.number in
+    let j = c.args.top.now.layer.number in
     let w = c.walk-w.result in
     c.lower.ensures
     ∙ sym (top (goal.at.returns c).After-walk-w

@@ -1,28 +1,23 @@
 -- `orders::consistent_permutation::ConsistentPermutation::next` meets its contract.
 -- Assumes nothing.
-use mathlib.Core.Path.{◌≡◌, sym, ◌∙◌}
-use mathlib.Core.Bool.{true}
-use Rattle.orders.specs.OrderCalls.{within}
-use Rattle.orders.proofs.NextLaws.{next_unfit, next_above, next_empty, next_first}
+use mathlib.Core.Path.{sym}
+use Rattle.std.proofs.lemmas.Result.{err_from_is_err_and}
+use Rattle.orders.proofs.NextLaws.{tested_yes, tested_no}
 use Rattle.orders.proofs.consistent_permutation.ConsistentPermutation.next.Goals as goal
-use Rattle.orders.proofs.consistent_permutation.ConsistentPermutation.next.Goals.{Else-not-fits}
 
--- no counter is above its size, once that is tested
-fit : (c : Else-not-fits) → within c.args.self.now.counters ≡ true
-fit c = sym c.fits.ensures ∙ c.if-not-fits.false
+pub returns-in_err-tested : goal.returns-in_err-tested
+returns-in_err-tested c =
+    let p = err_from_is_err_and c.from_residual.result c.from_residual.ensures.1 in
+    rw (p.1, p.2) (sym (tested_no c.args.self.now _ c.in_err-tested.ensures))
 
-pub returns-then-not-fits : goal.returns-then-not-fits
-returns-then-not-fits c = sym (next_unfit c.args.self.now (sym c.fits.ensures ∙ c.if-not-fits.true))
+pub top-top-requires : goal.top-top-requires
+top-top-requires c = (tested_yes c.args.self.now c.in_ok-tested.ensures).limit
 
-pub returns-then-self-gt-N_LIMIT : goal.returns-then-self-gt-N_LIMIT
-returns-then-self-gt-N_LIMIT c = sym (next_above c.args.self.now (fit (goal.at.returns-then-self-gt-N_LIMIT c).Else-not-fits) c.if-self-gt-N_LIMIT.true)
+pub number-requires-clause-limit : goal.number-requires-clause-limit
+number-requires-clause-limit c = (tested_yes c.args.self.now c.in_ok-tested.ensures).limit
 
-pub returns-then-self-eq0 : goal.returns-then-self-eq0
-returns-then-self-eq0 c = sym (next_empty c.args.self.now (fit (goal.at.returns-then-self-eq0 c).Else-not-fits) c.if-self-eq0.true)
-
-pub first-requires-clause-fit : goal.first-requires-clause-fit
-first-requires-clause-fit c = fit (goal.at.first-requires-clause-fit c).Else-not-fits
+pub number-requires-clause-fit : goal.number-requires-clause-fit
+number-requires-clause-fit c = (tested_yes c.args.self.now c.in_ok-tested.ensures).fit
 
 pub returns : goal.returns
-returns c =
-    c.first.ensures ∙ sym (next_first c.args.self.now _ (fit (goal.at.returns c).Else-not-fits) c.if-self-gt-N_LIMIT.false c.if-self-eq0.false c.of.ensures)
+returns c = c.number.ensures

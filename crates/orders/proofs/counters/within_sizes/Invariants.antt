@@ -1,0 +1,9 @@
+-- `orders::counters::within_sizes` meets its contract.
+-- Assumes nothing.
+use mathlib.Core.Path.{◌≡◌}
+use Rattle.orders.specs.OrderCalls.{within}
+use Rattle.orders.proofs.CounterLaws.{rest_within}
+use Rattle.orders.proofs.counters.within_sizes.Given as goal
+
+abbrev pub invariant-loop-number : goal.invariant-loop-number
+invariant-loop-number l = rest_within l.cs l.fit l.number ≡ within l.cs
