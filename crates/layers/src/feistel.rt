@@ -89,23 +89,16 @@ impl HalfBits {
         t
     }
 
-    // n rounds, for loops over many inputs. Most layers have none here, and none has more than eight: these are turns of a known
-    // number, so that what they take of their keys is worked out once for all inputs.
-    #[inline(always)]
+    // n rounds, for loops over many inputs. What the first two take of their keys is then worked out once for all inputs.
     pub(crate) fn more_rounds(self, n: u32, s: Halves) -> Halves
         ensures { result ≡ rounds self.bits n s }
     {
-        if n == 0 {
-            return s;
+        if n < 2 {
+            return self.rounds(n, s);
         }
-        let mut t = s;
-        for i in 0..8 {
-            if i == n {
-                return t;
-            }
-            t = self.round(t);
-        }
-        self.rounds(n - 8, t)
+        let t = self.round(s);
+        let u = self.round(t);
+        self.rounds(n - 2, u)
     }
 
     // l over r.

@@ -1,13 +1,13 @@
 -- The fifteen counters: what a passed test of refusal 12 says of each, and counters raised one after the other.
 -- Assumes nothing.
-use mathlib.Core.Path.{◌≡◌, refl, ap, ◌∙◌}
+use mathlib.Core.Path.{◌≡◌, refl, sym, ap, ◌∙◌}
 use mathlib.Core.Bool.{Bool, true, false, ◌&&◌}
 use mathlib.Core.List.{List}
 use Prim.Native.Nat.{ℕ, zero, suc, ◌+◌, ◌-◌, ◌≤◌, ◌<◌}
 use native.Mathlib.Nat.{add-suc, add-zero, suc-add}
 use native.Mathlib.Numerals.{add-one}
 use native.Mathlib.Omega.{arith}
-use borrow.Author.Tests.{leb-true}
+use borrow.Author.Tests.{leb-true, le-leb, lt-leb}
 use lib.Dec.{leb}
 use lib.ListN.{set}
 use lib.Seq.{get_or-set_other}
@@ -25,34 +25,29 @@ use Rattle.orders.proofs.WalkLaws.{counted_set}
 abbrev fitting : List ℕ → ℕ → Bool
 fitting cs j = leb (counter cs j) (size j)
 
--- what a loop over the layers has still to test at layer i, after tests that came to b
-abbrev pub rest_within : List ℕ → Bool → ℕ → Bool
-rest_within cs b i = b && every (fitting cs) (from i (15 - i))
+-- the test from layer i up
+abbrev pub within_from : List ℕ → ℕ → Bool
+within_from cs i = every (fitting cs) (from i (15 - i))
 
-and_assoc : (a b c : Bool) → ((a && b) && c) ≡ (a && (b && c))
-and_assoc true b c = refl
-and_assoc false b c = refl
-
-and_true : (b : Bool) → (b && true) ≡ b
-and_true true = refl
-and_true false = refl
-
-pub rest_start : (cs : List ℕ) → rest_within cs true 0 ≡ within cs
-unfolding within
-rest_start cs = refl
-
-every_turn : (p : ℕ → Bool) (b : Bool) (i n : ℕ) → i < n → ((b && p i) && every p (from (i + 1) (n - (i + 1)))) ≡ (b && every p (from i (n - i)))
+every_turn : (p : ℕ → Bool) (i n : ℕ) → i < n → every p (from i (n - i)) ≡ (p i && every p (from (i + 1) (n - (i + 1))))
 unfolding every
-every_turn p b i n h =
+every_turn p i n h =
     let e : n - i ≡ suc (n - (i + 1)) = omega arith in
-    rw (e, add-one i) (and_assoc b (p i) (every p (from (suc i) (n - suc i))))
+    rw (e, add-one i) refl
 
-pub rest_turn : (cs : List ℕ) (b : Bool) (i : ℕ) → i < 15 → rest_within cs (b && fitting cs i) (i + 1) ≡ rest_within cs b i
-rest_turn cs b i h = every_turn (fitting cs) b i 15 h
+pub from_start : (cs : List ℕ) → within_from cs 0 ≡ within cs
+unfolding within
+from_start cs = refl
 
-pub rest_end : (cs : List ℕ) (b : Bool) (i : ℕ) → 15 ≤ i → rest_within cs b i ≡ b
+pub from_turn : (cs : List ℕ) (i : ℕ) → i < 15 → counter cs i ≤ size i → within_from cs (i + 1) ≡ within_from cs i
+from_turn cs i h l = sym (every_turn (fitting cs) i 15 h ∙ rw (le-leb (counter cs i) (size i) l) refl)
+
+pub from_out : (cs : List ℕ) (i : ℕ) → i < 15 → size i < counter cs i → false ≡ within_from cs i
+from_out cs i h l = sym (every_turn (fitting cs) i 15 h ∙ rw (lt-leb (counter cs i) (size i) l) refl)
+
+pub from_end : (cs : List ℕ) (i : ℕ) → 15 ≤ i → true ≡ within_from cs i
 unfolding every
-rest_end cs b i h = let e : 15 - i ≡ 0 = omega arith in rw e (and_true b)
+from_end cs i h = let e : 15 - i ≡ 0 = omega arith in rw e refl
 
 -- no counter is above its size
 pub within_at : (cs : List ℕ) → within cs ≡ true → (i : ℕ) → i < 15 → counter cs i ≤ size i

@@ -39,12 +39,16 @@ impl ConsistentPermutation {
 
     // The next number, which moves the order on. A counter above its size, or met at it in a descent: refused 12; n above 2^30:
     // refused 1. A refusal leaves the order as it was.
+    #[inline(never)]
     pub fn next(&mut self) -> Result<Option<u32>, Refusal>
         ensures { step (told_option result) self.new ≡ next_call self.old }
     {
         self.tested()?;
+        if self.n == 0 {
+            return Ok(None);
+        }
         let top = self.top();
-        self.number(&top)
+        self.first(&top)
     }
 
     // The refusals of `next` that are known before the first output: 12, 1.
@@ -69,22 +73,9 @@ impl ConsistentPermutation {
         Outputs::new(Layer::of(self.n), self.master_key)
     }
 
-    // The next number of an order that passes the tests, by the record of the layer of n.
-    pub(crate) fn number(&mut self, top: &Outputs) -> Result<Option<u32>, Refusal>
-        requires layer { top.now.layer.number ≡ layer_of self.old.n }
-        requires key { top.now.key ≡ self.old.master_key }
-        requires limit { self.old.n ≤ 2 ^ 30 }
-        requires fit { within self.old.counters ≡ true }
-        ensures { step (told_option result) self.new ≡ next_call self.old }
-    {
-        if self.n == 0 {
-            return Ok(None);
-        }
-        self.first(top)
-    }
-
-    // The next number below n, n above 0.
-    fn first(&mut self, top: &Outputs) -> Result<Option<u32>, Refusal>
+    // The next number below n, n above 0, of an order that passes the tests, by the record of the layer of n.
+    #[inline(always)]
+    pub(crate) fn first(&mut self, top: &Outputs) -> Result<Option<u32>, Refusal>
         requires layer { top.now.layer.number ≡ layer_of self.old.n }
         requires key { top.now.key ≡ self.old.master_key }
         requires some { 0 < self.old.n }

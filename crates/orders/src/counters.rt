@@ -29,16 +29,17 @@ pub(crate) fn set_counter(cs: &mut [u32; 15], j: Layer, x: u32)
     cs[j.number as usize] = x;
 }
 
-// Whether no counter is above its layer's size, by tests without a branch.
+// Whether no counter is above its layer's size.
 pub(crate) fn within_sizes(cs: &[u32; 15]) -> bool
     ensures { result ≡ within cs.now }
 {
-    let mut fit = true;
     for number in 0..15 {
         let j = Layer { number };
-        fit &= counter_at(cs, j) <= j.size();
+        if j.size() < counter_at(cs, j) {
+            return false;
+        }
     }
-    fit
+    true
 }
 
 // Sets the counter of layer `top` to x, and makes those from `low` up to it one higher.
@@ -56,13 +57,14 @@ pub(crate) fn raise(cs: &mut [u32; 15], low: Layer, top: Layer, x: u32)
 }
 
 // A layer from its input `from` on, up to its first output below n.
+#[inline(always)]
 pub(crate) fn walk(top: &Outputs, n: u32, from: u32) -> Walked
     requires { from ≤ size top.now.layer.number }
     ensures { result ≡ walk_of top.now.key top.now.layer.number n from }
 {
     let size = top.layer.size();
     for x in from..size {
-        let y = top.at(x);
+        let y = top.one(x);
         if y < n {
             return Walked {
                 input: x + 1,

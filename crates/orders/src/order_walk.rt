@@ -35,6 +35,9 @@ impl OrderWalk {
     pub fn next(&mut self) -> Result<Option<u32>, Refusal>
         ensures { step (told_option result) self.new.order ≡ next_call self.old.order }
     {
-        self.order.number(&self.top)
+        if self.order.n == 0 {
+            return Ok(None);
+        }
+        self.order.first(&self.top)
     }
 }

@@ -24,9 +24,17 @@ impl Outputs {
     }
 
     // The output of an input.
+    #[inline(always)]
     pub(crate) fn at(self, x: u32) -> u32
         ensures { result ≡ layer self.layer.number self.key x }
     {
         self.keyed.apply(x)
+    }
+    // The same by a call. A loop that mostly ends at its first output is slower where the compiler takes several at once.
+    #[inline(never)]
+    pub(crate) fn one(&self, x: u32) -> u32
+        ensures { result ≡ layer self.now.layer.number self.now.key x }
+    {
+        self.at(x)
     }
 }
