@@ -8,6 +8,7 @@ use mathlib.Core.Option.{Option, none, some}
 use Prim.Native.Nat.{ℕ, zero, suc, ◌-◌, ◌^◌}
 use lib.Dec.{ltb, eqb}
 use lib.ListN.{length}
+use Rattle.lists.specs.Told.{Told, map_told}
 use Rattle.lists.specs.Steps.{Step}
 use Rattle.lists.specs.Lists.{below, same, has}
 use Rattle.lists.specs.Refusing.{Among, Spares}
@@ -19,7 +20,7 @@ use Rattle.orders.specs.Orders.{layer_of, counter, next_number}
 use Rattle.orders.specs.OrderCalls as Order
 use Rattle.orders.specs.Reservoirs.{opening, wider}
 use Rattle.orders.specs.ReservoirCalls.{After, after, AfterOpen, AfterSample, key_of, j_of, fitting, open_call, short_refusal, exchange_by, exchange, admit_at, admit_call, grow_to, grow_layer_call, sample_call}
-use Rattle.orders.specs.RefusedBy.{order_refusals, order_next_refusals, open_refusals, admit_refusals, grow_layer_refusals, sample_refusals}
+use Rattle.orders.specs.RefusedBy.{order_refusals, order_next_refusals, walk_refusals, open_refusals, admit_refusals, grow_layer_refusals, sample_refusals}
 
 -- ---- orders
 
@@ -46,6 +47,14 @@ module _ (o : ConsistentPermutation) where
       (λ fits. by_cond OrderSpared (ltb (2 ^ 30) o.n) _ _ (λ above. (refl, refl)) (λ not. by_cond OrderSpared (eqb o.n 0) _ _ (λ zero. tt)
       (λ some. first_refuses (layer_of o.n) (size (layer_of o.n) - counter o.counters (layer_of o.n)) o.counters)))
       (λ unfit. (refl, refl))
+
+  pub walk_refuses : Among walk_refusals (Order.walk_call o)
+  unfolding Order.tested has same
+  walk_refuses =
+      by_cond Refused (Order.within o.counters) _ _ (λ fits. by_cond Refused (ltb (2 ^ 30) o.n) _ _ (λ above. refl) (λ not. tt)) (λ unfit. refl)
+    where
+      Refused : Told (Unit {0}) → Type 0
+      Refused t = Among walk_refusals (map_told (λ u. o) t)
 
 -- ---- reservoirs
 

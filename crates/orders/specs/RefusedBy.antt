@@ -12,6 +12,10 @@ order_refusals = 1 ∷ []
 abbrev pub order_next_refusals : List ℕ
 order_next_refusals = 12 ∷ 1 ∷ []
 
+-- `OrderWalk::new`: of these the ones known before the first output
+abbrev pub walk_refusals : List ℕ
+walk_refusals = 12 ∷ 1 ∷ []
+
 -- ---- reservoirs
 
 -- `ConsistentReservoir::new`: "1 n above 2^30", "2 k is 0", "3 k above n", "4 a lent list shorter than what must be written"
