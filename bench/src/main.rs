@@ -1,5 +1,6 @@
 //! Times the proved library beside the original: the same inputs, one run, the lowest of several measurements of each.
-//! bench lines: the line program only; bench rounds: rounds only; bench lengths: how many places of a list are used, and nothing timed.
+//! bench PART: one part only (layers, words, hashes, orders, reservoirs, choosers, slots, rounds, lines); bench lengths: how many places of a
+//! list are used, and nothing timed.
 
 mod choosers;
 mod hashes;
@@ -78,19 +79,7 @@ fn splitmix64(v: u64) -> u64 {
     oracle::splitmix64(v)
 }
 
-fn main() {
-    if std::env::args().nth(1).as_deref() == Some("lengths") {
-        return lengths::all();
-    }
-    println!(
-        "{:<44} {:>8} {:>8} {:>7}",
-        "nanoseconds each", "proved", "Rust", "ratio"
-    );
-    match std::env::args().nth(1).as_deref() {
-        Some("lines") => return lines::all(),
-        Some("rounds") => return rounds::all(),
-        _ => {}
-    }
+fn layers() {
     for layer in [0, 1, 2, 3, 5, 8, 11] {
         let n = 1u32 << (2 * layer + 2);
         let turns = ((1u64 << 22) / u64::from(n)).max(1);
@@ -118,17 +107,47 @@ fn main() {
             measure(turns * u64::from(n), ours, theirs),
         );
     }
+}
+
+fn words() {
     let calls = 1u64 << 22;
     let chain = |f: &dyn Fn(u64) -> u64| (0..calls).fold(0, |s, _| f(s));
     report(
         "splitmix64, each of the one before",
         measure(calls, || chain(&proved::splitmix64), || chain(&splitmix64)),
     );
-    hashes::all();
-    orders::all();
-    reservoirs::all();
-    choosers::all();
-    slots::all();
-    rounds::all();
-    lines::all();
+}
+
+/// What is timed, in the order of the whole run.
+const PARTS: [(&str, fn()); 9] = [
+    ("layers", layers),
+    ("words", words),
+    ("hashes", hashes::all),
+    ("orders", orders::all),
+    ("reservoirs", reservoirs::all),
+    ("choosers", choosers::all),
+    ("slots", slots::all),
+    ("rounds", rounds::all),
+    ("lines", lines::all),
+];
+
+fn main() {
+    let asked = std::env::args().nth(1);
+    if asked.as_deref() == Some("lengths") {
+        return lengths::all();
+    }
+    let names = PARTS.map(|(name, _)| name);
+    if let Some(asked) = asked.as_deref().filter(|asked| !names.contains(asked)) {
+        eprintln!("bench: no part {asked}: {}, lengths", names.join(", "));
+        std::process::exit(2);
+    }
+    println!(
+        "{:<44} {:>8} {:>8} {:>7}",
+        "nanoseconds each", "proved", "Rust", "ratio"
+    );
+    for (name, part) in PARTS {
+        if asked.as_deref().is_none_or(|asked| asked == name) {
+            part();
+        }
+    }
 }

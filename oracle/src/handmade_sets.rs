@@ -69,6 +69,11 @@ fn next_refused(order: Memory, c: u32) -> String {
     refused('X', &order, &[], c)
 }
 
+/// The counters of the lowest layers, each at its layer's size.
+fn at_sizes(layers: u32) -> Vec<u32> {
+    (0..layers).map(|j| 4 << (2 * j)).collect()
+}
+
 /// Under key 0 layer 0 gives 0, 3, 2, 1, and layer 1 gives 13, 12, 11, 0, 4, 5, 8, 3, 7, 14, 1, 9, 15, 6, 10, 2.
 fn nexts() -> Vec<String> {
     let mut lines = vec![
@@ -80,21 +85,21 @@ fn nexts() -> Vec<String> {
         next_of(order(5, &[4, 4]), 4, order(5, &[4, 5])),
         // The last number of the lower layer, and of both.
         next_of(order(5, &[3, 10]), 1, order(5, &[4, 11])),
-        next_of(order(5, &[3, 12]), 1, order(5, &[4, 16])),
+        next_of(order(5, &[3, 12]), 1, order(5, &at_sizes(2))),
         // Layers above that of n keep their counters.
         next_of(order(6, &[2, 5, 7, 9]), 5, order(6, &[2, 6, 7, 9])),
         // Numbers are dropped up to the layer's end, where the counter then stands.
         next_of(order(1, &[1]), NONE, order(1, &[4])),
         none_of(order(1, &[4])),
         none_of(order(5, &[0, 16])),
-        none_of(order(16, &[4, 16])),
+        none_of(order(16, &at_sizes(2))),
         none_of(one_counter(LIMIT, 14, LIMIT)),
         none_of(order(0, &[])),
-        none_of(order(0, &[4, 16, 64])),
+        none_of(order(0, &at_sizes(3))),
     ];
     for n in [LIMIT + 1, 1 << 31, u32::MAX] {
         lines.push(next_refused(order(n, &[]), 1));
-        lines.push(next_refused(order(n, &[4, 16]), 1));
+        lines.push(next_refused(order(n, &at_sizes(2)), 1));
         lines.push(next_refused(order(n, &[4, 17]), 12));
     }
     // Above its size, in a layer below, at and above that of n.

@@ -15,7 +15,6 @@ pub mod Exchanges
 pub mod Without
 pub mod Writing
 pub mod Searching
-pub mod Tables
 pub mod Turns
 pub mod Inserting
 pub mod Ascending
