@@ -49,13 +49,13 @@ fn keyed_of(layer: u32, key: u64) -> KeyedLayer
     requires { layer < 15 }
     ensures { result ≡ keyed_layer layer key }
 {
-    let bits = formulas::bits(layer) / 2;
-    let half = HalfBits::new(bits);
+    let h = formulas::bits(layer) / 2;
+    let half = HalfBits::new(h);
     let k1 = half.next_key(key);
     let k2 = half.next_key(k1);
     let k3 = half.next_key(k2);
     KeyedLayer {
-        half: bits,
+        half: h,
         size: formulas::size(layer),
         more: formulas::rounds(layer) - 4,
         first: RoundKey::from(key),
@@ -81,6 +81,7 @@ impl KeyedLayer {
     }
 
     // The layer at x, which counts modulo the size: of the record of layer j, layer j at x; of any other, what its numbers give.
+    // Inlined, so that a loop over inputs is made for the record that it has.
     #[inline(always)]
     pub fn apply(self, x: u32) -> u32
         ensures any { result ≡ applied self x }

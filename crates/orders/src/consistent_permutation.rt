@@ -38,7 +38,7 @@ impl ConsistentPermutation {
     }
 
     // The next number, which moves the order on. A counter above its size, or met at it in a descent: refused 12; n above 2^30:
-    // refused 1. A refusal leaves the order as it was.
+    // refused 1. A refusal leaves the order as it was. A call of its own: put into a caller, it would work on a copy of the counters.
     #[inline(never)]
     pub fn next(&mut self) -> Result<Option<u32>, Refusal>
         ensures { step (told_option result) self.new ≡ next_call self.old }

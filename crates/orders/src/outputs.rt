@@ -30,6 +30,7 @@ impl Outputs {
     {
         self.keyed.apply(x)
     }
+
     // The same by a call. A loop that mostly ends at its first output is slower where the compiler takes several at once.
     #[inline(never)]
     pub(crate) fn one(&self, x: u32) -> u32
