@@ -74,6 +74,13 @@ fn at_sizes(layers: u32) -> Vec<u32> {
     (0..layers).map(|j| 4 << (2 * j)).collect()
 }
 
+/// The same, the last of them one above.
+fn past_sizes(layers: u32) -> Vec<u32> {
+    let mut counters = at_sizes(layers);
+    *counters.last_mut().unwrap() += 1;
+    counters
+}
+
 /// Under key 0 layer 0 gives 0, 3, 2, 1, and layer 1 gives 13, 12, 11, 0, 4, 5, 8, 3, 7, 14, 1, 9, 15, 6, 10, 2.
 fn nexts() -> Vec<String> {
     let mut lines = vec![
@@ -100,7 +107,7 @@ fn nexts() -> Vec<String> {
     for n in [LIMIT + 1, 1 << 31, u32::MAX] {
         lines.push(next_refused(order(n, &[]), 1));
         lines.push(next_refused(order(n, &at_sizes(2)), 1));
-        lines.push(next_refused(order(n, &[4, 17]), 12));
+        lines.push(next_refused(order(n, &past_sizes(2)), 12));
     }
     // Above its size, in a layer below, at and above that of n.
     for j in 0..15 {

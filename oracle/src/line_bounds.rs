@@ -56,7 +56,8 @@ pub fn opens() -> Vec<u8> {
         lines.extend(["admit", "admit", "join", "admit", "withdraw\t0"].map(String::from));
     }
     let most = LINE_PLACES as u64;
-    for n in [16384, 65536, 1 << 28, MOST, 16383, 16385, most, 100_000] {
+    let sizes = [6, 7, 13, 14].map(|j| 4 << (2 * j));
+    for n in sizes.into_iter().chain([16383, 16385, most, 100_000]) {
         lines.push(open_line(1, most, n));
         lines.extend(["admit", "join", "admit"].map(String::from));
         lines.push(open_line(1, most + 1, n));

@@ -18,7 +18,7 @@ use Rattle.answers.proofs.Tolds.{told_ok}
 use Rattle.orders.specs.declared.consistent_permutation.ConsistentPermutation.{ConsistentPermutation}
 use Rattle.orders.specs.declared.order_walk.OrderWalk.{OrderWalk}
 use Rattle.orders.specs.Orders.{none_counted, P}
-use Rattle.orders.specs.OrderCalls.{order_of, new_call, step, next_call, walk_call}
+use Rattle.orders.specs.OrderCalls.{order_of, new_call, step, next_call, walk_new_call}
 use Rattle.orders.proofs.OrderWalks.{Going, rest_of, next_turn, going_new, going_tested, rest_new}
 use Rattle.exports.specs.Coded.{fed_all}
 use Rattle.exports.specs.InnerDigests.{fed_with}
@@ -35,7 +35,7 @@ order_is n key s o e h m = let f = sym m ∙ order_made n key s e h in cc
 
 -- nor the walk of an order that has gone from its start
 abbrev pub Walks : Result OrderWalk Refusal → ConsistentPermutation → Type 0
-Walks s o = map_told (λ (w : OrderWalk). w.order) (told s) ≡ walk_call o
+Walks s o = map_told (λ (w : OrderWalk). w.order) (told s) ≡ walk_new_call o
 
 pub walk_made : (o : ConsistentPermutation) (s : Result OrderWalk Refusal) → Walks s o → Going o → is_ok s ≡ true
 walk_made o (Ok w) e g = refl

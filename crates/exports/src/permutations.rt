@@ -1,6 +1,6 @@
 // Orders for C and Rust. The record is eighteen words that the caller keeps: the key's low and high 32 bits, n, the fifteen
 // counters.
-ghost use Rattle.std.specs.Prelude.{◌≡◌, cond, ◌+◌, ◌^◌, ◌≤◌, length, take};
+ghost use Rattle.std.specs.Prelude.{◌≡◌, ◌^◌, ◌≤◌, take};
 ghost use Rattle.lists.specs.Lists.{written};
 ghost use Rattle.orders.specs.Orders.{P};
 ghost use Rattle.answers.specs.Refusals.{told_option};

@@ -1,6 +1,6 @@
 -- Rounds one after the other, and the halves they stay within.
 -- Assumes nothing.
-use Rattle.std.proofs.Common.{◌≡◌, ℕ, zero, suc, ◌+◌, ◌-◌, ◌*◌, ◌/◌, ◌%◌, ◌^◌, ◌<◌, ◌≤◌, refl, ◌∙◌, not-suc-le-zero, mod-lt, arith, pow_pos}
+use Rattle.std.proofs.Common.{◌≡◌, ℕ, zero, suc, ◌+◌, ◌-◌, ◌*◌, ◌/◌, ◌%◌, ◌^◌, ◌<◌, ◌≤◌, refl, not-suc-le-zero, mod-lt, arith, pow_pos}
 use lib.Arith.{digits_lt}
 use lib.Pow.{mod-mod-pow}
 use lib.Bits.{bit_and, bit_xor, xor_lt, or_lt, and_mask}
@@ -15,17 +15,12 @@ unfolding rounds
 rounds_step h zero s p = absurd (not-suc-le-zero p)
 rounds_step h (suc n) s p = let e : suc n - 1 ≡ n = omega arith in rw e
 
--- the first two of them one by one, and four
-pub rounds_two : (h n : ℕ) (s : Halves) → 2 ≤ n → rounds h n s ≡ rounds h (n - 2) (round h (round h s))
+-- n of them are the first m, and then the others
+pub rounds_more : (h m n : ℕ) (s : Halves) → m ≤ n → rounds h n s ≡ rounds h (n - m) (rounds h m s)
 unfolding rounds
-rounds_two h (suc (suc n)) s p = let e : suc (suc n) - 2 ≡ n = omega arith in rw e
-rounds_two h (suc zero) s p = absurd (omega arith)
-rounds_two h zero s p = absurd (omega arith)
-
-pub rounds_four : (h n : ℕ) (s : Halves) → 4 ≤ n → rounds h n s ≡ rounds h (n - 4) (round h (round h (round h (round h s))))
-rounds_four h n s p =
-    let e : n - 2 - 2 ≡ n - 4 = omega arith in
-    rounds_two h n s (omega arith) ∙ rw e at (rounds_two h (n - 2) (round h (round h s)) (omega arith))
+rounds_more h zero n s p = let e : n - 0 ≡ n = omega arith in rw e
+rounds_more h (suc m) zero s p = absurd (omega arith)
+rounds_more h (suc m) (suc n) s p = let e : suc n - suc m ≡ n - m = omega arith in rw e (rounds_more h m n (round h s) (omega arith))
 
 -- the low h bits of a word are those of its low 32 bits
 low_low : (s h : ℕ) → h ≤ 32 → s % 2 ^ 32 % 2 ^ h ≡ s % 2 ^ h

@@ -1,5 +1,5 @@
 // Feistel rounds on two halves of a few bits.
-ghost use Rattle.std.specs.Prelude.{◌≡◌, ◌-◌, ◌*◌, ◌^◌, ◌<◌, ◌≤◌, bit_xor};
+ghost use Rattle.std.specs.Prelude.{◌≡◌, ◌-◌, ◌*◌, ◌^◌, ◌<◌, bit_xor};
 ghost use Rattle.layers.specs.Layer.{start, next_key, round, rounds, over};
 ghost use Rattle.layers.specs.KeyedLayers.{new_right};
 ghost use Rattle.layers.specs.InnerRounds.{Within};
@@ -89,16 +89,30 @@ impl HalfBits {
         t
     }
 
-    // n rounds, for loops over many inputs. What the first two take of their keys is then worked out once for all inputs.
-    pub(crate) fn more_rounds(self, n: u32, s: Halves) -> Halves
+    // Two rounds.
+    #[inline(always)]
+    fn two_rounds(self, s: Halves) -> Halves
+        ensures { result ≡ rounds self.bits 2 s }
+    {
+        let t = self.round(s);
+        self.round(t)
+    }
+
+    // n rounds, the first four without a loop: a single layer is faster so, and a loop over many inputs works out once what these
+    // rounds take of their keys.
+    #[inline(always)]
+    pub(crate) fn unrolled(self, n: u32, s: Halves) -> Halves
         ensures { result ≡ rounds self.bits n s }
     {
         if n < 2 {
             return self.rounds(n, s);
         }
-        let t = self.round(s);
-        let u = self.round(t);
-        self.rounds(n - 2, u)
+        let t = self.two_rounds(s);
+        if n < 4 {
+            return self.rounds(n - 2, t);
+        }
+        let u = self.two_rounds(t);
+        self.rounds(n - 4, u)
     }
 
     // l over r.
@@ -109,16 +123,12 @@ impl HalfBits {
         (s.l << self.bits) | s.r
     }
 
-    // A number through n rounds, the first four one by one.
+    // A number through n rounds.
     pub(crate) fn network(self, n: u32, key: u64, x: u32) -> u32
-        requires { 4 ≤ n }
         ensures { result ≡ over self.bits (rounds self.bits n (start self.bits key x)) }
     {
-        let a = self.round(self.start(key, x));
-        let b = self.round(a);
-        let c = self.round(b);
-        let d = self.round(c);
-        let t = self.rounds(n - 4, d);
+        let s = self.start(key, x);
+        let t = self.unrolled(n, s);
         self.over(t)
     }
 }

@@ -98,7 +98,7 @@ impl KeyedLayer {
             r: d,
             key: self.key,
         };
-        half.over(half.more_rounds(self.more, four))
+        half.over(half.unrolled(self.more, four))
     }
 }
 

@@ -3,7 +3,7 @@
 use mathlib.Core.Path.{◌≡◌, refl, sym, ap, ◌∙◌}
 use mathlib.Core.Bool.{Bool, true, false, ◌&&◌}
 use mathlib.Core.List.{List}
-use Prim.Native.Nat.{ℕ, zero, suc, ◌+◌, ◌-◌, ◌≤◌, ◌<◌}
+use Prim.Native.Nat.{ℕ, zero, suc, ◌+◌, ◌-◌, ◌^◌, ◌≤◌, ◌<◌}
 use native.Mathlib.Nat.{add-suc, add-zero, suc-add}
 use native.Mathlib.Numerals.{add-one}
 use native.Mathlib.Omega.{arith}
@@ -55,7 +55,7 @@ unfolding within
 within_at cs e i h = leb-true (counter cs i) (size i) (every_at (λ j. leb (counter cs j) (size j)) 0 15 i e (omega arith) h)
 
 -- so one more of it is still a u32
-pub within_limit : (cs : List ℕ) → within cs ≡ true → (i : ℕ) → i < 15 → counter cs i ≤ 1073741824
+pub within_limit : (cs : List ℕ) → within cs ≡ true → (i : ℕ) → i < 15 → counter cs i ≤ 2 ^ 30
 within_limit cs e i h = omega (arith, within_at cs e i h, size_in i h)
 
 -- ---- counters raised one after the other
@@ -84,14 +84,8 @@ raises_set (suc c) i t x cs h =
 -- ---- the loop that raises them
 
 -- those that it has still to raise are as they were, so a u32 holds them one higher
-pub small_start : (cs ds : List ℕ) (low top x : ℕ) → ((i : ℕ) → i < top → counter cs i ≤ 1073741824) → ds ≡ set cs top x
-    → (k : ℕ) → low ≤ k → k < top → counter ds k ≤ 1073741824
-small_start cs ds low top x h e k a b =
-    let f : counter ds k ≡ counter cs k = ap (λ (l : List ℕ). counter l k) e ∙ get_or-set_other cs top k x 0 (omega arith) in
-    omega (arith, h k b)
-
-pub small_turn : (cs ds : List ℕ) (i top : ℕ) → ((k : ℕ) → i ≤ k → k < top → counter cs k ≤ 1073741824) → ds ≡ counted i cs
-    → (k : ℕ) → i + 1 ≤ k → k < top → counter ds k ≤ 1073741824
+pub small_turn : (cs ds : List ℕ) (i top : ℕ) → ((k : ℕ) → i ≤ k → k < top → counter cs k ≤ 2 ^ 30) → ds ≡ counted i cs
+    → (k : ℕ) → i + 1 ≤ k → k < top → counter ds k ≤ 2 ^ 30
 small_turn cs ds i top h e k a b =
     let f : counter ds k ≡ counter cs k = ap (λ (l : List ℕ). counter l k) e ∙ counted_other i k cs (omega arith) in
     omega (arith, h k (omega arith) b)

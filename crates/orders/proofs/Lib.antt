@@ -7,6 +7,7 @@ pub mod FitLaws
 pub mod ReservoirLaws
 pub mod AdmissionLaws
 pub mod HistoryLaws
+pub mod HoldingLaws
 pub mod ScanLaws
 pub mod SurveyLaws
 pub mod CoverLaws

@@ -1,14 +1,14 @@
 -- The layer of n: the lowest layer that holds n, found from the count of leading zeros.
 -- Assumes nothing.
 use mathlib.Core.Path.{◌≡◌, sym, ap, ◌∙◌}
-use Prim.Native.Nat.{ℕ, zero, suc, ◌+◌, ◌-◌, ◌*◌, ◌/◌, ◌%◌, ◌^◌, ◌≤◌, ◌<◌, zero-le}
+use Prim.Native.Nat.{ℕ, zero, suc, ◌+◌, ◌-◌, ◌/◌, ◌^◌, ◌≤◌, ◌<◌, zero-le}
 use native.Mathlib.Nat.{pow-le-pow_right}
 use native.Mathlib.Numerals.{add-one}
 use native.Mathlib.Omega.{arith}
 use lib.Count.{count_leading_zeros, leading_top}
-use lib.Pow.{pow-add, shl_exact}
+use lib.Pow.{pow-add}
 use borrow.Author.Tests.{le-leb, lt-leb}
-use Rattle.lists.proofs.Numbers.{four_pow, four_pow_double}
+use Rattle.lists.proofs.Numbers.{four_pow}
 use Rattle.lists.proofs.Tests.{below_yes, below_no, by_below, by_three}
 use Rattle.layers.specs.Layer.{size}
 use Rattle.orders.specs.Orders.{halvings, log2, layer_of}
@@ -105,10 +105,6 @@ size_limit j h = pow-le-pow_right {n = 4} (omega arith) {i = suc j} {j = 15} (om
 
 pub size_in : (j : ℕ) → j < 15 → size j ≤ 4 ^ 15
 size_in j h = rw (size_suc j) (size_limit j (omega arith))
-
--- `4 << 2j` in a word of 32 bits
-pub size_shl : (j : ℕ) → j < 15 → (4 * 2 ^ (2 * j)) % 2 ^ 32 ≡ size j
-size_shl j h = shl_exact {a = 4} 3 (2 * j) 32 (omega arith) (omega arith) ∙ rw (size_suc j, ← four_pow_double j) (omega arith)
 
 pub pow_up : (i j : ℕ) → i ≤ j → 4 ^ i ≤ 4 ^ j
 pow_up i j h = pow-le-pow_right {n = 4} (omega arith) {i = i} {j = j} h

@@ -3,16 +3,18 @@
 -- Assumes nothing.
 use mathlib.Core.Path.{◌≡◌, refl}
 use mathlib.Core.Bool.{true}
-use mathlib.Core.List.{List}
+use mathlib.Core.List.{List, [], ◌∷◌}
 use mathlib.Core.Option.{Option, none, some}
-use Prim.Native.Nat.{ℕ, zero, suc, ◌-◌, ◌^◌}
+use Prim.Native.Nat.{ℕ, zero, suc, ◌-◌, ◌^◌, ◌≤◌}
+use borrow.Author.Tests.{le-ltb}
 use lib.Dec.{ltb, eqb}
 use lib.ListN.{length}
 use Rattle.lists.specs.Told.{Told, map_told}
 use Rattle.lists.specs.Steps.{Step}
-use Rattle.lists.specs.Lists.{below, same, has}
+use Rattle.lists.specs.Lists.{below, same, has, every}
 use Rattle.lists.specs.Refusing.{Among, Spares}
 use Rattle.lists.proofs.Tests.{by_cond}
+use Rattle.lists.proofs.Spared.{spared_within}
 use Rattle.orders.specs.declared.consistent_permutation.ConsistentPermutation.{ConsistentPermutation}
 use Rattle.orders.specs.declared.consistent_reservoir.ConsistentReservoir.{ConsistentReservoir}
 use Rattle.layers.specs.Layer.{size}
@@ -20,7 +22,7 @@ use Rattle.orders.specs.Orders.{layer_of, counter, next_number}
 use Rattle.orders.specs.OrderCalls as Order
 use Rattle.orders.specs.Reservoirs.{opening, wider}
 use Rattle.orders.specs.ReservoirCalls.{After, after, AfterOpen, AfterSample, key_of, j_of, fitting, open_call, short_refusal, exchange_by, exchange, admit_at, admit_call, grow_to, grow_layer_call, sample_call}
-use Rattle.orders.specs.RefusedBy.{order_refusals, order_next_refusals, walk_refusals, open_refusals, admit_refusals, grow_layer_refusals, sample_refusals}
+use Rattle.orders.specs.RefusedBy.{order_refusals, order_next_refusals, walk_new_refusals, open_refusals, admit_refusals, grow_layer_refusals, sample_refusals}
 
 -- ---- orders
 
@@ -32,29 +34,40 @@ module _ (o : ConsistentPermutation) where
   abbrev OrderSpared : Step ConsistentPermutation → Type 0
   OrderSpared s = Spares order_next_refusals s.said o s.walk
 
-  first_refuses : (j c : ℕ) (cs : List ℕ) → OrderSpared (Order.first_of o j c cs)
+  abbrev WalkSpared : Step ConsistentPermutation → Type 0
+  WalkSpared s = Spares (12 ∷ []) s.said o s.walk
+
+  first_refuses : (j c : ℕ) (cs : List ℕ) → WalkSpared (Order.first_of o j c cs)
   unfolding has same
   first_refuses j zero cs = tt
   first_refuses j (suc c) cs =
-      by_cond OrderSpared (Order.meets (Order.key_of o) j cs) _ _
+      by_cond WalkSpared (Order.meets (Order.key_of o) j cs) _ _
       (λ met. (refl, refl))
-      (λ not. by_cond OrderSpared (below o.n (next_number (Order.key_of o) j cs).number) _ _ (λ is. tt) (λ later. first_refuses j c _))
+      (λ not. by_cond WalkSpared (below o.n (next_number (Order.key_of o) j cs).number) _ _ (λ is. tt) (λ later. first_refuses j c _))
 
   pub order_next_refuses : let s = Order.next_call o in Spares order_next_refusals s.said o s.walk
-  unfolding Order.next_call has same
+  unfolding Order.next_call every has same
   order_next_refuses =
       by_cond OrderSpared (Order.within o.counters) _ _
       (λ fits. by_cond OrderSpared (ltb (2 ^ 30) o.n) _ _ (λ above. (refl, refl)) (λ not. by_cond OrderSpared (eqb o.n 0) _ _ (λ zero. tt)
-      (λ some. first_refuses (layer_of o.n) (size (layer_of o.n) - counter o.counters (layer_of o.n)) o.counters)))
+      (λ some. let s = Order.first_of o (layer_of o.n) (size (layer_of o.n) - counter o.counters (layer_of o.n)) o.counters in
+      spared_within (12 ∷ []) order_next_refusals s.said o s.walk refl (first_refuses (layer_of o.n) (size (layer_of o.n) - counter o.counters (layer_of o.n)) o.counters))))
       (λ unfit. (refl, refl))
 
-  pub walk_refuses : Among walk_refusals (Order.walk_call o)
+  pub walk_new_refuses : Among walk_new_refusals (Order.walk_new_call o)
   unfolding Order.tested has same
-  walk_refuses =
+  walk_new_refuses =
       by_cond Refused (Order.within o.counters) _ _ (λ fits. by_cond Refused (ltb (2 ^ 30) o.n) _ _ (λ above. refl) (λ not. tt)) (λ unfit. refl)
     where
       Refused : Told (Unit {0}) → Type 0
-      Refused t = Among walk_refusals (map_told (λ u. o) t)
+      Refused t = Among walk_new_refusals (map_told (λ u. o) t)
+
+  -- an order that is walked passes the tests, as the ghost fields of `OrderWalk` say: 1 is not left
+  pub walk_refused_12 : Order.within o.counters ≡ true → o.n ≤ 2 ^ 30 → let s = Order.next_call o in Spares (12 ∷ []) s.said o s.walk
+  unfolding Order.next_call
+  walk_refused_12 f h =
+      rw (f, le-ltb (2 ^ 30) o.n h) (by_cond WalkSpared (eqb o.n 0) _ _ (λ zero. tt)
+      (λ some. first_refuses (layer_of o.n) (size (layer_of o.n) - counter o.counters (layer_of o.n)) o.counters))
 
 -- ---- reservoirs
 

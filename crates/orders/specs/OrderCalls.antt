@@ -64,5 +64,5 @@ unfoldable pub tested : ConsistentPermutation → Told (Unit {0})
 tested o = cond (within o.counters) (cond (ltb (2 ^ 30) o.n) (refusal 1) (says tt)) (refusal 12)
 
 -- the order, where it may be walked
-abbrev pub walk_call : ConsistentPermutation → Told ConsistentPermutation
-walk_call o = map_told (λ u. o) (tested o)
+abbrev pub walk_new_call : ConsistentPermutation → Told ConsistentPermutation
+walk_new_call o = map_told (λ u. o) (tested o)

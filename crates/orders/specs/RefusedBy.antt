@@ -13,8 +13,8 @@ abbrev pub order_next_refusals : List ℕ
 order_next_refusals = 12 ∷ 1 ∷ []
 
 -- `OrderWalk::new`: of these the ones known before the first output
-abbrev pub walk_refusals : List ℕ
-walk_refusals = 12 ∷ 1 ∷ []
+abbrev pub walk_new_refusals : List ℕ
+walk_new_refusals = 12 ∷ 1 ∷ []
 
 -- ---- reservoirs
 

@@ -1,5 +1,5 @@
 // The fifteen counters of an order: read, raised, and walked by.
-ghost use Rattle.std.specs.Prelude.{◌≡◌, ℕ, ◌-◌, ◌<◌, ◌≤◌, get_or, set};
+ghost use Rattle.std.specs.Prelude.{◌≡◌, ℕ, ◌-◌, ◌^◌, ◌<◌, ◌≤◌, get_or, set};
 ghost use Rattle.layers.specs.Layer.{size};
 ghost use Rattle.orders.specs.Orders.{counter};
 ghost use Rattle.orders.specs.OrderCalls.{within};
@@ -45,7 +45,7 @@ pub(crate) fn within_sizes(cs: &[u32; 15]) -> bool
 // Sets the counter of layer `top` to x, and makes those from `low` up to it one higher.
 pub(crate) fn raise(cs: &mut [u32; 15], low: Layer, top: Layer, x: u32)
     requires above { low.number ≤ top.number }
-    requires room { (i : ℕ) → i < top.number → counter cs.old i ≤ 1073741824 }
+    requires room { (i : ℕ) → i < top.number → counter cs.old i ≤ 2 ^ 30 }
     ensures { cs.new ≡ set (raises cs.old low.number (top.number - low.number)) top.number x }
 {
     set_counter(cs, top, x);
@@ -64,7 +64,7 @@ pub(crate) fn walk(top: &Outputs, n: u32, from: u32) -> Walked
 {
     let size = top.layer.size();
     for x in from..size {
-        let y = top.one(x);
+        let y = top.at_by_call(x);
         if y < n {
             return Walked {
                 input: x + 1,

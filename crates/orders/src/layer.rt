@@ -23,7 +23,7 @@ impl Layer {
 
     // The layer of n.
     pub(crate) fn of(n: u32) -> Self
-        requires { n ≤ 1073741824 }
+        requires { n ≤ 2 ^ 30 }
         ensures { result.number ≡ layer_of n }
     {
         if n <= 1 {
@@ -38,7 +38,7 @@ impl Layer {
     pub(crate) fn size(self) -> u32
         ensures { result ≡ size self.number }
     {
-        4 << (2 * self.number)
+        1 << (2 * self.number + 2)
     }
 
     // Outputs below this have top bits 00.

@@ -3,7 +3,7 @@ ghost use Rattle.std.specs.Prelude.{◌≡◌, true, ◌^◌, ◌≤◌};
 ghost use Rattle.lists.specs.Told.{map_told};
 ghost use Rattle.answers.specs.Refusals.{told, told_option};
 ghost use Rattle.orders.specs.Orders.{layer_of};
-ghost use Rattle.orders.specs.OrderCalls.{step, within, next_call, walk_call};
+ghost use Rattle.orders.specs.OrderCalls.{step, within, next_call, walk_new_call};
 
 use crate::consistent_permutation::ConsistentPermutation;
 use crate::outputs::Outputs;
@@ -23,14 +23,15 @@ pub struct OrderWalk {
 impl OrderWalk {
     // The order, to be walked from where it stands. A counter above its size: refused 12; n above 2^30: refused 1.
     pub fn new(order: ConsistentPermutation) -> Result<Self, Refusal>
-        ensures { map_told (λ w. w.order) (told result) ≡ walk_call order }
+        ensures { map_told (λ w. w.order) (told result) ≡ walk_new_call order }
     {
         order.tested()?;
         let top = order.top();
         Ok(OrderWalk { order, top })
     }
 
-    // The order's next number, as `ConsistentPermutation::next` says it. A counter met at its size in a descent: refused 12.
+    // The order's next number, as `ConsistentPermutation::next` says it. A counter met at its size in a descent: refused 12, which leaves
+    // the walk as it was.
     #[inline]
     pub fn next(&mut self) -> Result<Option<u32>, Refusal>
         ensures { step (told_option result) self.new.order ≡ next_call self.old.order }

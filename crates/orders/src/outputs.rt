@@ -33,7 +33,7 @@ impl Outputs {
 
     // The same by a call. A loop that mostly ends at its first output is slower where the compiler takes several at once.
     #[inline(never)]
-    pub(crate) fn one(&self, x: u32) -> u32
+    pub(crate) fn at_by_call(&self, x: u32) -> u32
         ensures { result ≡ layer self.now.layer.number self.now.key x }
     {
         self.at(x)

@@ -5,7 +5,7 @@ use Rattle.layers.proofs.FormulaLaws.{half, four_rounds}
 use Rattle.layers.proofs.keyed_of.Goals as goal
 
 pub new-half-requires : goal.new-half-requires
-new-half-requires c = omega (arith, c.bits.ensures, half c.args.layer)
+new-half-requires c = omega (arith, c.bits-h.ensures, half c.args.layer)
 
 pub overflow_sub-result : goal.overflow_sub-result
 overflow_sub-result c = omega (arith, c.rounds.ensures, four_rounds c.args.layer)
@@ -24,6 +24,6 @@ returns c =
       c.new-half.ensures,
       c.size.ensures,
       c.rounds.ensures,
-      c.bits.ensures,
+      c.bits-h.ensures,
       half c.args.layer,
     )

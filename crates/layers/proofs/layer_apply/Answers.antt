@@ -5,7 +5,7 @@ use borrow.Author.Tests.{lt-leb}
 use Rattle.lists.specs.Told.{says}
 use Rattle.layers.specs.Layer.{size, layer}
 use Rattle.layers.specs.Calls.{layer_apply}
-use Rattle.layers.proofs.FormulaLaws.{half, four_rounds}
+use Rattle.layers.proofs.FormulaLaws.{half}
 use Rattle.layers.proofs.layer_apply.Goals as goal
 
 pub returns-then-layer-gt-LAYER_LIMIT : goal.returns-then-layer-gt-LAYER_LIMIT
@@ -21,9 +21,6 @@ returns-then-size-x c =
 
 pub new-half-requires : goal.new-half-requires
 new-half-requires c = omega (arith, c.bits.ensures, half c.args.layer)
-
-pub network-requires : goal.network-requires
-network-requires c = rw c.rounds.ensures (four_rounds c.args.layer)
 
 pub returns : goal.returns
 unfolding layer_apply layer

@@ -16,7 +16,7 @@ over-requires c =
     let b : c.turned-b.result < 2 ^ h = rw c.turned-b.ensures (new_lt h _ _ _ _ s.right) in
     let left : c.turned-c.result < 2 ^ h = rw c.turned-c.ensures (new_lt h _ _ _ _ a) in
     let right : c.turned-d.result < 2 ^ h = rw c.turned-d.ensures (new_lt h _ _ _ _ b) in
-    rw c.more_rounds.ensures (rounds_within h _ _ (record { left = left; right = right }))
+    rw c.unrolled.ensures (rounds_within h _ _ (record { left = left; right = right }))
 
 pub returns : goal.returns
 unfolding applied
@@ -24,7 +24,7 @@ returns c =
     let a = c.args in
     let e : c.over.result ≡ applied a.self a.x = simp (
       c.over.ensures,
-      c.more_rounds.ensures,
+      c.unrolled.ensures,
       c.turned-d.ensures,
       c.turned-c.ensures,
       c.turned-b.ensures,

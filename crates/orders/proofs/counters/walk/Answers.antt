@@ -15,9 +15,9 @@ loop-x-init c =
 pub returns-then-y-n : goal.returns-then-y-n
 returns-then-y-n c =
     let l = c.loop-x in
-    sym (seek_hit _ _ _ _ _ _ c.loop-x-test.true c.one-y.ensures c.if-y-n.true) ∙ l.invariant
+    sym (seek_hit _ _ _ _ _ _ c.loop-x-test.true c.at_by_call-y.ensures c.if-y-n.true) ∙ l.invariant
 
 pub loop-x-preserved : goal.loop-x-preserved
 loop-x-preserved c =
     let l = c.loop-x in
-    sym (seek_miss _ _ _ _ _ _ c.loop-x-test.true c.one-y.ensures c.if-y-n.false) ∙ l.invariant
+    sym (seek_miss _ _ _ _ _ _ c.loop-x-test.true c.at_by_call-y.ensures c.if-y-n.false) ∙ l.invariant

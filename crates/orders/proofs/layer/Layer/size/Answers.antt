@@ -1,6 +1,6 @@
 -- `orders::layer::Layer::size` meets its contract.
 -- Assumes nothing.
-use Rattle.orders.proofs.LogLaws.{size_shl}
+use Rattle.layers.proofs.FormulaLaws.{size_shl}
 use Rattle.orders.proofs.layer.Layer.size.Goals as goal
 
 pub returns : goal.returns
