@@ -43,19 +43,26 @@ def module_of(path):
     return ('type', crate, rest[0] + '.rt' if len(rest) > 1 else root_of(crate), rest[-1])
 
 
+def use_lines(text, word):
+    """Of each `use` line: the module, the names that it brings, each with what it is called there, and the module's alias, if it brings that."""
+    for m in re.finditer(r'^(?:pub )?' + word + r'\s+([\w.\-]+?)(?:\.\{([^}]*)\}|\s+as\s+(\w+))?;?\s*$', text, re.M):
+        if m.group(2) is None:
+            yield m.group(1), {}, m.group(3) or m.group(1).split('.')[-1]
+            continue
+        ways = [brought.strip().partition(' as ') for brought in m.group(2).split(',')]
+        yield m.group(1), {called.strip() or name: name for name, _, called in ways}, None
+
+
 def uses(text, word):
     """(names, aliases) that the `use` lines bring: each name to where it leads and what it is called there, each alias to where it leads."""
     names, aliases = {}, {}
-    for m in re.finditer(r'^(?:pub )?' + word + r'\s+([\w.\-]+?)(?:\.\{([^}]*)\}|\s+as\s+(\w+))?;?\s*$', text, re.M):
-        where = module_of(m.group(1))
+    for module, brought, alias in use_lines(text, word):
+        where = module_of(module)
         if where is None:
             continue
-        if m.group(2) is None:
-            aliases[m.group(3) or m.group(1).split('.')[-1]] = where
-            continue
-        for brought in m.group(2).split(','):
-            name, _, called = brought.strip().partition(' as ')
-            names[called.strip() or name] = (where, name)
+        if alias:
+            aliases[alias] = where
+        names.update({called: (where, name) for called, name in brought.items()})
     return names, aliases
 
 
