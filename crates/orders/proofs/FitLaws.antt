@@ -1,13 +1,14 @@
 -- A call of `next` keeps an order's key and n, and its counters within their sizes.
 -- Assumes nothing.
 use mathlib.Core.Path.{◌≡◌, refl, ◌∙◌}
-use mathlib.Core.Bool.{Bool, true, false, ◌||◌, true≢false}
+use mathlib.Core.Bool.{true, false}
 use mathlib.Core.List.{List}
 use Prim.Native.Nat.{ℕ, zero, suc, ◌+◌, ◌^◌, ◌≤◌, ◌<◌}
 use native.Mathlib.Omega.{arith}
 use borrow.Author.Tests.{le-leb, leb-false, le-ltb, eq-eqb, ne_eqb}
 use lib.ListN.{length, length-set}
 use lib.Seq.{get_or-set_same, get_or-set_other}
+use Rattle.std.proofs.lemmas.Bool.{or_parts}
 use Rattle.lists.specs.Lists.{below}
 use Rattle.lists.proofs.Tests.{by_test, by_same}
 use Rattle.lists.proofs.Keeping.{every_from}
@@ -30,17 +31,13 @@ counted_within j cs l h e u =
     (λ d. let same : counter (counted j cs) i ≡ counter cs i = get_or-set_other cs j i (counter cs j + 1) 0 d in
     omega (arith, same, within_at cs e i b))))
 
-neither : (a b : Bool) → (a || b) ≡ false → (a ≡ false) × (b ≡ false)
-neither false b e = (refl, e)
-neither true b e = absurd (true≢false e)
-
 module _ (key : ℕ) where
   -- a number whose descent meets no counter at its size
   next_within : (j : ℕ) (cs : List ℕ) → length cs ≡ 15 → j < 15 → within cs ≡ true → meets key j cs ≡ false → within (next_number key j cs).counters ≡ true
   unfolding counted
   next_within zero cs l h e m = counted_within 0 cs l h e (leb-false (size 0) (counter cs 0) m)
   next_within (suc j) cs l h e m =
-      let n = neither _ _ m in
+      let n = or_parts _ _ m in
       let up : within (counted (suc j) cs) ≡ true = counted_within (suc j) cs l h e (leb-false (size (suc j)) (counter cs (suc j)) n.0) in
       by_test (zero_top (suc j) (output key (suc j) cs))
       (λ y. rw y (next_within j (counted (suc j) cs) (length-set cs (suc j) (counter cs (suc j) + 1) ∙ l) (omega arith) up (meets_set key j (suc j) (counter cs (suc j) + 1) cs (omega arith) ∙ (rw y at n.1))))
