@@ -38,7 +38,11 @@ pub fn all() {
     let count = 1 << 17;
     for (size, n) in SIZES {
         let mut draws = Draws(1);
-        let inputs: Vec<_> = (0..count).map(|_| (draws.next(), n(&mut draws))).collect();
+        // Not where the original's rising walk skips n: there the two answer differently.
+        let inputs: Vec<_> = std::iter::repeat_with(|| (draws.next(), n(&mut draws)))
+            .filter(|&(_, n)| !oracle::skips(n))
+            .take(count as usize)
+            .collect();
         let ours = || answers(&inputs, |state, n| proved::prev(state, n).unwrap());
         let theirs = || answers(&inputs, prev);
         report(&format!("prev, {size}"), measure(count, ours, theirs));

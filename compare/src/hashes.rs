@@ -36,13 +36,31 @@ fn input(draws: &mut Draws) -> (u64, u64) {
     (state, n.min(LIMIT))
 }
 
+/// The same where the original's rising walk does not skip n.
+fn start(draws: &mut Draws) -> (u64, u64) {
+    loop {
+        let (state, n) = input(draws);
+        if !oracle::skips(n) {
+            return (state, n);
+        }
+    }
+}
+
+/// A state and a start that it skips, few bits more often, where n is more often a hash.
+fn skipped_start(draws: &mut Draws) -> (u64, u64) {
+    let bits = match draws.below(4) {
+        0 => draws.below(62),
+        _ => draws.below(6),
+    };
+    (state(draws), (2 << bits) - 1)
+}
+
 /// Tries a call with a state and an n.
 fn tried<T: PartialEq + std::fmt::Debug>(
-    draws: &mut Draws,
+    (state, n): (u64, u64),
     ours: fn(u64, u64) -> Result<T, Refused>,
     theirs: fn(u64, u64) -> T,
 ) -> Option<String> {
-    let (state, n) = input(draws);
     differ(
         format!("state {state:#x} n {n:#x}"),
         ours(state, n),
@@ -60,15 +78,15 @@ pub fn seq_builder(draws: &mut Draws) -> Option<String> {
 }
 
 pub fn prev(draws: &mut Draws) -> Option<String> {
-    tried(draws, proved::prev, oracle::prev)
+    tried(input(draws), proved::prev, oracle::prev)
 }
 
 pub fn into_prev(draws: &mut Draws) -> Option<String> {
-    tried(draws, proved::into_prev, oracle::into_prev)
+    tried(input(draws), proved::into_prev, oracle::into_prev)
 }
 
 pub fn next(draws: &mut Draws) -> Option<String> {
-    tried(draws, proved::next, oracle::next)
+    tried(start(draws), proved::next, oracle::next)
 }
 
 /// Follows a walk to its end and one call more. `at` is the walk's number before a step, `after` gives it by the hash.
@@ -105,23 +123,46 @@ pub fn falling_steps(draws: &mut Draws) -> Option<String> {
     )
 }
 
-pub fn rising_steps(draws: &mut Draws) -> Option<String> {
-    let (state, n) = input(draws);
+/// The rising walk from n beside one that is given.
+fn rising(
+    state: u64,
+    n: u64,
+    theirs: impl Iterator<Item = usize>,
+) -> Option<String> {
     stepped(
         format!("state {state:#x} n {n:#x}"),
-        proved::rising_low(n).unwrap(),
+        n,
         |low| proved::rising_next(state, low),
         |x| x + 1,
-        ConsistentHashIterator::new(n as usize, StandIn(state)),
+        theirs,
     )
 }
 
+pub fn rising_steps(draws: &mut Draws) -> Option<String> {
+    let (state, n) = start(draws);
+    let theirs = ConsistentHashIterator::new(n as usize, StandIn(state));
+    rising(state, n, theirs)
+}
+
 pub fn falling_digest(draws: &mut Draws) -> Option<String> {
-    tried(draws, proved::falling_digest, oracle::falling_digest)
+    tried(input(draws), proved::falling_digest, oracle::falling_digest)
 }
 
 pub fn rising_digest(draws: &mut Draws) -> Option<String> {
-    tried(draws, proved::rising_digest, oracle::rising_digest)
+    tried(start(draws), proved::rising_digest, oracle::rising_digest)
+}
+
+/// All that rises, from where the original skips its start: by document 02, over the original's hashes.
+pub fn skipped_starts(draws: &mut Draws) -> Option<String> {
+    let (state, n) = skipped_start(draws);
+    let hashes = oracle::hashes_from(state, n);
+    let ours = (proved::next(state, n), proved::rising_digest(state, n));
+    let theirs = (
+        Ok(hashes.first().copied()),
+        Ok(oracle::digest(hashes.iter().copied())),
+    );
+    differ(format!("state {state:#x} n {n:#x}"), ours, theirs)
+        .or_else(|| rising(state, n, hashes.into_iter().map(|x| x as usize)))
 }
 
 /// All calls that refuse, with an n above the limit: by document 01, since the original answers there too.
@@ -133,13 +174,12 @@ pub fn refusals(draws: &mut Draws) -> Option<String> {
         proved::into_prev(state, n).err(),
         proved::next(state, n).err(),
         proved::falling_next(state, n).err(),
-        proved::rising_low(n).err(),
         proved::falling_digest(state, n).err(),
         proved::rising_digest(state, n).err(),
     ];
     differ(
         format!("state {state:#x} n {n:#x}"),
         ours,
-        [Some(Refused(1)); 7],
+        [Some(Refused(1)); 6],
     )
 }

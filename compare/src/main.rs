@@ -79,8 +79,16 @@ const CALLS: [(&str, u64, Trial); 39] = [
     ),
 ];
 
-/// What has a process of its own for each input, so few of them: how many in a million.
-const PROGRAMS: [(&str, u64, Trial); 1] = [("the line program, whole inputs", 200, lines::inputs)];
+/// What is compared besides, and how many inputs of it to a million of those. The program has a process of its own for each input, so few
+/// of them.
+const BESIDES: [(&str, u64, Trial); 2] = [
+    ("the line program, whole inputs", 200, lines::inputs),
+    (
+        "rising, where the original skips its start",
+        10_000,
+        hashes::skipped_starts,
+    ),
+];
 
 fn main() {
     let millions: u64 = match std::env::args().nth(1) {
@@ -91,7 +99,7 @@ fn main() {
         }),
     };
     let calls = CALLS.map(|(name, share, trial)| (name, 10_000 * share, trial));
-    for (place, (name, inputs, trial)) in calls.into_iter().chain(PROGRAMS).enumerate() {
+    for (place, (name, inputs, trial)) in calls.into_iter().chain(BESIDES).enumerate() {
         let count = millions * inputs;
         // Other numbers for each call and for each length of run.
         let mut draws = Draws(((place as u64) << 48) + count);

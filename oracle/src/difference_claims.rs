@@ -107,6 +107,14 @@ fn rising(state: u64, n: u64) -> ConsistentHashIterator<StandIn> {
     ConsistentHashIterator::new(n as usize, StandIn(state))
 }
 
+/// Whether the original's rising walk from n leaves n out, of the first state of which n is a hash.
+fn leaves_out(n: u64) -> bool {
+    let state = (0..).find(|&state| prev(state, n + 1) == Some(n));
+    next(state.unwrap(), n) != Some(n)
+}
+
+const SKIPPED: &str = "`next` and the rising walk from 1, 3, 7, .., 2^62 − 1";
+
 const ABOVE_2_62: &str = "`prev`, `into_prev`, `next` and both walks with n above 2^62";
 
 const HASHES: &[Claim] = &[
@@ -170,10 +178,22 @@ const HASHES: &[Claim] = &[
     )
     .panics_in_debug(),
     claim(
-        "",
-        "state 1, n = 1: hash 1 is there, `next` says none",
+        SKIPPED,
+        "state 1, n = 1, where hash 1 is there: the original says none",
         || shown([prev(1, 2), next(1, 1)]),
         "[Some(1), None]",
+    ),
+    claim(
+        SKIPPED,
+        "state 1, n = 1, where hash 1 is there: the original says none",
+        || shown(rising(1, 1).collect::<Vec<_>>()),
+        "[]",
+    ),
+    claim(
+        SKIPPED,
+        "skips n itself where n+1 is a power of two from 2 up",
+        || shown((0..1024).filter(|&n| leaves_out(n)).collect::<Vec<_>>()),
+        "[1, 3, 7, 15, 31, 63, 127, 255, 511, 1023]",
     ),
 ];
 

@@ -1,6 +1,9 @@
 //! The sets of hashes: answers of the original for states and numbers n, and refusals.
 
-use oracle::{falling_digest, into_prev, next, prev, rising_digest, seq_builder, Draws};
+use oracle::{
+    digest, falling_digest, hashes_from, into_prev, next, prev, rising_digest, seq_builder, skips,
+    Draws,
+};
 
 use crate::{coded, NONE};
 
@@ -11,13 +14,27 @@ const LIMIT: u64 = 1 << 62;
 const BIT_63: u64 = 1 << 63;
 
 /// A call with a state and an n: its letter, and its answer.
-const CALLS: [(char, fn(u64, u64) -> u64); 5] = [
+type Call = (char, fn(u64, u64) -> u64);
+
+const CALLS: [Call; 5] = [
     ('p', |state, n| prev(state, n).unwrap_or(NONE)),
     ('i', |state, n| into_prev(state, n).unwrap_or(NONE)),
     ('n', |state, n| next(state, n).unwrap_or(NONE)),
     ('f', falling_digest),
     ('r', rising_digest),
 ];
+
+/// The calls that rise, as document 02, §4, has them.
+const RISING: [Call; 2] = [
+    ('n', |state, n| {
+        hashes_from(state, n).first().copied().unwrap_or(NONE)
+    }),
+    ('r', |state, n| digest(hashes_from(state, n).into_iter())),
+];
+
+fn rises(letter: char) -> bool {
+    RISING.iter().any(|&(rising, _)| rising == letter)
+}
 
 /// No bucket, the lowest ones, all, and the same with bit 63.
 const STATES: [u64; 8] = [
@@ -56,7 +73,7 @@ fn any_length(draws: &mut Draws) -> u64 {
     (1 << bit) + draws.below(1 << bit)
 }
 
-/// A state that has hash 2^bit − 1, which the rising walk from there skips.
+/// A state that has hash 2^bit − 1, which the original's rising walk from there skips.
 fn skipping(bit: u32, draws: &mut Draws) -> u64 {
     let n = 1 << bit;
     std::iter::repeat_with(|| draws.next())
@@ -109,15 +126,39 @@ fn seq_builders() -> Vec<String> {
         .collect()
 }
 
-/// Those, then a letter of `CALLS`, the state, n and the answer.
+/// A letter, the state, n and the answer.
+fn line((letter, call): Call, state: u64, n: u64) -> String {
+    format!("{letter} {state:x} {n:x} {:x}", call(state, n))
+}
+
+/// Those, then a letter of `CALLS`, the state, n and the answer. What rises from where the original skips is left out.
 pub fn hashes() -> Vec<String> {
     let mut lines = seq_builders();
     for (state, n) in pairs() {
-        for (letter, call) in CALLS {
-            lines.push(format!("{letter} {state:x} {n:x} {:x}", call(state, n)));
-        }
+        let compared = CALLS.into_iter().filter(|&(c, _)| !(rises(c) && skips(n)));
+        lines.extend(compared.map(|call| line(call, state, n)));
     }
     lines
+}
+
+/// What is left out there: a letter of `RISING`, the state, an n with n+1 a power of two from 2 up, and the answer.
+pub fn rising_starts() -> Vec<String> {
+    let mut starts = pairs();
+    starts.retain(|&(_, n)| skips(n));
+    let mut draws = Draws(12);
+    for bit in 1..=62 {
+        let n = (1 << bit) - 1;
+        starts.extend(STATES.map(|state| (state, n)));
+        starts.push((1 << (bit - 1), n));
+        starts.push((draws.next(), n));
+    }
+    for bit in 1..=20 {
+        starts.push((skipping(bit, &mut draws), (1 << bit) - 1));
+    }
+    let lines = starts
+        .iter()
+        .flat_map(|&(state, n)| RISING.map(|call| line(call, state, n)));
+    lines.collect()
 }
 
 /// A letter, the state, an n above the limit, and 2^63 + 1: by document 01, since the original answers there too.

@@ -150,10 +150,15 @@ const ORIGINAL_IN_ROUNDS: &str =
     "consistent-choose-k of github/rust-gems 9804c5bc17, built in release: sample, exchange and slot; \
     refusals, a location's state, which deleted slot joins and the table's bytes are document 01's";
 
-const SETS: [Set; 12] = [
+const SETS: [Set; 13] = [
     ("mix", ORIGINAL, mix),
     ("layers", ORIGINAL, layers),
     ("hashes", ORIGINAL, hash_sets::hashes),
+    (
+        "rising_starts",
+        "document 02, §4, by the hashes that the original's falling walk from 2^63 gives, since the original's rising walk skips these starts",
+        hash_sets::rising_starts,
+    ),
     ("orders", ORIGINAL, order_sets::orders),
     ("reservoirs", ORIGINAL_IN_LISTS, reservoir_sets::reservoirs),
     (

@@ -11,7 +11,6 @@ extern "C" {
     fn perillajamb_into_prev(state: u64, n: u64) -> u64;
     fn perillajamb_next(state: u64, n: u64) -> u64;
     fn perillajamb_falling_next(state: u64, n: u64) -> u64;
-    fn perillajamb_rising_low(n: u64) -> u64;
     fn perillajamb_rising_next(state: u64, low: u64) -> u64;
     fn perillajamb_falling_digest(state: u64, n: u64) -> u64;
     fn perillajamb_rising_digest(state: u64, n: u64) -> u64;
@@ -309,12 +308,7 @@ pub fn falling_next(state: u64, n: u64) -> Result<Option<u64>, Refused> {
     decoded_found(unsafe { perillajamb_falling_next(state, n) })
 }
 
-/// Where the rising walk from n starts.
-pub fn rising_low(n: u64) -> Result<u64, Refused> {
-    decoded_number(unsafe { perillajamb_rising_low(n) })
-}
-
-/// A step of the rising walk whose `low` is given; after a hash that is one above it.
+/// A step of the rising walk whose `low` is given: first the n it starts from, after a hash one above that.
 pub fn rising_next(state: u64, low: u64) -> Result<Option<u64>, Refused> {
     decoded_found(unsafe { perillajamb_rising_next(state, low) })
 }

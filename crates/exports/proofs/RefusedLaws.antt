@@ -16,7 +16,6 @@ use Rattle.lists.proofs.Tests.{by_cond}
 use Rattle.lists.proofs.Spared.{has_within, spared_under}
 use Rattle.layers.specs.Layer.{size}
 use Rattle.hashes.specs.Calls.{limited}
-use Rattle.hashes.specs.Next.{low}
 use Rattle.orders.specs.declared.consistent_permutation.ConsistentPermutation.{ConsistentPermutation}
 use Rattle.orders.specs.declared.consistent_reservoir.ConsistentReservoir.{ConsistentReservoir}
 use Rattle.orders.specs.OrderCalls as OrderCalls
@@ -35,7 +34,7 @@ use Rattle.exports.specs.Reservoirs as Reservoir
 use Rattle.exports.specs.Chooser as Chooser
 use Rattle.exports.specs.Slots as Slots
 use Rattle.exports.proofs.TooFewLaws.{first_four, four, short_among, short_with_k, by_words, words_spared, fits_crosses}
-use Rattle.exports.specs.RefusedBy.{Crosses, said_else, said_by, layer_xors_refusals, rising_low_refusals, hash_digest_refusals, order_digest_refusals, order_new_refusals, chooser_new_refusals, words_refusals, order_next_refusals, reservoir_next_refusals, reservoir_grow_layer_refusals, reservoir_sample_refusals, chooser_grow_refusals, chooser_next_refusals, chooser_shrink_refusals}
+use Rattle.exports.specs.RefusedBy.{Crosses, said_else, said_by, layer_xors_refusals, hash_digest_refusals, order_digest_refusals, order_new_refusals, chooser_new_refusals, words_refusals, order_next_refusals, reservoir_next_refusals, reservoir_grow_layer_refusals, reservoir_sample_refusals, chooser_grow_refusals, chooser_next_refusals, chooser_shrink_refusals}
 
 -- ---- numbers alone
 
@@ -46,10 +45,6 @@ layer_xors_refuses j key n = by_cond (Among layer_xors_refusals) (leb j 14 && le
 limit_refuses : (ws : List ℕ) (n x : ℕ) → has 1 ws ≡ true → Among ws (limited n x)
 unfolding limited
 limit_refuses ws n x h = by_cond (Among ws) (ltb (2 ^ 62) n) _ _ (λ above. h) (λ not. tt)
-
-pub rising_low_refuses : (n : ℕ) → Among rising_low_refusals (limited n (low n))
-unfolding has same
-rising_low_refuses n = limit_refuses rising_low_refusals n _ refl
 
 pub falling_digest_refuses : (s n : ℕ) → Among hash_digest_refusals (falling_digest s n)
 unfolding falling_digest has same

@@ -6,7 +6,6 @@ use Rattle.std.specs.Int.Bits.{bit_xor}
 use Rattle.lists.specs.Told.{Told, refusal, says}
 use Rattle.layers.specs.Layer.{size, layer}
 use Rattle.hashes.specs.Hashes.{feed}
-use Rattle.hashes.specs.Next.{low}
 use Rattle.hashes.specs.Calls.{limited}
 use Rattle.hashes.specs.Walks.{hashes_below, hashes_from}
 
@@ -60,4 +59,4 @@ unfoldable pub falling_digest : ℕ → ℕ → Told ℕ
 falling_digest s n = limited n (digest (hashes_below s n))
 
 unfoldable pub rising_digest : ℕ → ℕ → Told ℕ
-rising_digest s n = limited n (digest (hashes_from s (low n)))
+rising_digest s n = limited n (digest (hashes_from s n))

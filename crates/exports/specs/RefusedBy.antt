@@ -27,9 +27,6 @@ abbrev pub layer_xors_refusals : List ℕ
 layer_xors_refusals = 12 ∷ []
 
 -- 1: "n above .. 2^62 (hashes, choosers)"
-abbrev pub rising_low_refusals : List ℕ
-rising_low_refusals = 1 ∷ []
-
 abbrev pub hash_digest_refusals : List ℕ
 hash_digest_refusals = 1 ∷ []
 

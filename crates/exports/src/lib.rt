@@ -16,8 +16,7 @@ ghost use Rattle.layers.specs.Calls.{layer_apply};
 ghost use Rattle.layers.specs.Layer.{layer};
 ghost use Rattle.layers.specs.KeyedLayers.{keyed_layer};
 ghost use Rattle.hashes.specs.Hashes.{feed};
-ghost use Rattle.hashes.specs.Next.{low};
-ghost use Rattle.hashes.specs.Calls.{limited, prev_call, next_call};
+ghost use Rattle.hashes.specs.Calls.{prev_call, next_call};
 ghost use Rattle.answers.specs.Refusals.{told};
 ghost use Rattle.hashes.specs.Walks.{fall, rise};
 ghost use Rattle.exports.specs.Coded.{coded, xors, layer_xors, coded_hash, coded_number, falling_digest, rising_digest};
@@ -115,17 +114,7 @@ pub fn perillajamb_falling_next(state: u64, n: u64) -> u64
     parts::hash(walk.next())
 }
 
-// Where the rising walk from n starts: its `low`.
-pub fn perillajamb_rising_low(n: u64) -> u64
-    ensures { result ≡ coded_number (limited n (low n)) }
-{
-    match ConsistentHashIterator::new(n, 0) {
-        Ok(walk) => walk.low,
-        Err(why) => parts::refused(why),
-    }
-}
-
-// A step of the rising walk: the smallest hash of `low` or more. After a hash the walk's `low` is one above it.
+// A step of the rising walk: the smallest hash of `low` or more. From n up, `low` is n first; after a hash it is one above that.
 pub fn perillajamb_rising_next(state: u64, low: u64) -> u64
     ensures { result ≡ coded_hash (rise (record { state = state; low = low })).said }
 {

@@ -12,8 +12,7 @@ ghost use Rattle.std.specs.Prelude.{◌≡◌};
 ghost use Rattle.words.specs.Words.{wrapping_mul, rotate_right, mix};
 ghost use Rattle.layers.specs.Calls.{layer_apply};
 ghost use Rattle.hashes.specs.Hashes.{feed};
-ghost use Rattle.hashes.specs.Next.{low};
-ghost use Rattle.hashes.specs.Calls.{limited, prev_call, next_call};
+ghost use Rattle.hashes.specs.Calls.{prev_call, next_call};
 ghost use Rattle.hashes.specs.Walks.{fall, rise};
 ghost use Rattle.exports.specs.Coded.{coded, layer_xors, coded_hash, coded_number, falling_digest, rising_digest};
 
@@ -90,15 +89,7 @@ pub extern "C" fn perillajamb_falling_next(state: u64, n: u64) -> u64
     exports::perillajamb_falling_next(state, n)
 }
 
-// Where the rising walk from n starts: its `low`.
-#[unsafe(no_mangle)]
-pub extern "C" fn perillajamb_rising_low(n: u64) -> u64
-    ensures { result ≡ coded_number (limited n (low n)) }
-{
-    exports::perillajamb_rising_low(n)
-}
-
-// A step of the rising walk: the smallest hash of `low` or more. After a hash the walk's `low` is one above it.
+// A step of the rising walk: the smallest hash of `low` or more. From n up, `low` is n first; after a hash it is one above that.
 #[unsafe(no_mangle)]
 pub extern "C" fn perillajamb_rising_next(state: u64, low: u64) -> u64
     ensures { result ≡ coded_hash (rise (record { state = state; low = low })).said }

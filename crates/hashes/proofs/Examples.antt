@@ -5,10 +5,11 @@ use mathlib.Core.List.{[], ◌∷◌}
 use mathlib.Core.Option.{none, some}
 use Prim.Native.Nat.{ℕ}
 use Rattle.lists.specs.Told.{says}
-use Rattle.lists.specs.Lists.{below, not_below, same, has}
+use Rattle.lists.specs.Lists.{below, not_below}
 use Rattle.words.specs.Words.{mix, wrapping_mul}
 use Rattle.hashes.specs.Hashes.{feed, draw, draws, later_numbers, numbers, bucket_hashes, bucket_draws, is_set, bucket, buckets, hashes, prev}
-use Rattle.hashes.specs.Next.{is_power, low, smallest_from, next}
+use Rattle.hashes.specs.Next.{smallest_from}
+use Rattle.hashes.specs.Calls.{limited, next_call}
 use Rattle.lists.specs.Steps.{answers}
 use Rattle.hashes.specs.Walks.{fall, rise}
 
@@ -25,11 +26,20 @@ pub falling_example : answers fall 6 (record { state = state; n = 51 }) ≡ says
 unfolding answers fall prev below hashes buckets bucket is_set bucket_hashes bucket_draws draws draw feed numbers later_numbers mix wrapping_mul
 falling_example = refl
 
-pub rising_example : answers rise 6 (record { state = state; low = low 0 }) ≡ says (some 0) ∷ says (some 2) ∷ says (some 12) ∷ says (some 47) ∷ says (some 50) ∷ says none ∷ []
-unfolding answers rise smallest_from not_below low is_power has same hashes buckets bucket is_set bucket_hashes bucket_draws draws draw feed numbers later_numbers mix wrapping_mul
+pub rising_example : answers rise 6 (record { state = state; low = 0 }) ≡ says (some 0) ∷ says (some 2) ∷ says (some 12) ∷ says (some 47) ∷ says (some 50) ∷ says none ∷ []
+unfolding answers rise smallest_from not_below hashes buckets bucket is_set bucket_hashes bucket_draws draws draw feed numbers later_numbers mix wrapping_mul
 rising_example = refl
 
--- "skips n itself where n+1 is a power of two from 2 up": 1 is a hash of state 1, but next of 1 is none
-pub skip_example : (hashes 1 ≡ 0 ∷ 1 ∷ []) × (next 1 1 ≡ none)
-unfolding next smallest_from not_below low is_power has same hashes buckets bucket is_set bucket_hashes bucket_draws draws draw feed numbers later_numbers mix wrapping_mul
-skip_example = (refl, refl)
+-- Document 02, §4: "misses a slot when it starts just below a power of two". 1, 3 and 7 are hashes of these states, by the original's
+-- prev of 2, 4 and 8 too, and rising from each begins with it.
+pub start_1 : (hashes 1 ≡ 0 ∷ 1 ∷ []) × (next_call 1 1 ≡ says (some 1))
+unfolding limited smallest_from not_below hashes buckets bucket is_set bucket_hashes bucket_draws draws draw feed numbers later_numbers mix wrapping_mul
+start_1 = (refl, refl)
+
+pub start_3 : (hashes 3 ≡ 0 ∷ 1 ∷ 3 ∷ []) × (next_call 3 3 ≡ says (some 3))
+unfolding limited smallest_from not_below hashes buckets bucket is_set bucket_hashes bucket_draws draws draw feed numbers later_numbers mix wrapping_mul
+start_3 = (refl, refl)
+
+pub start_7 : (hashes 5 ≡ 0 ∷ 1 ∷ 7 ∷ []) × (next_call 5 7 ≡ says (some 7))
+unfolding limited smallest_from not_below hashes buckets bucket is_set bucket_hashes bucket_draws draws draw feed numbers later_numbers mix wrapping_mul
+start_7 = (refl, refl)

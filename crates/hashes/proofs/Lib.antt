@@ -8,5 +8,6 @@ pub mod PlaceLaws
 pub mod CallLaws
 pub mod LargestLaws
 pub mod WalkLaws
+pub mod AgreeLaws
 pub mod Examples
 pub mod RefusedLaws

@@ -1,22 +1,14 @@
--- Which bucket is the next one up, by the lowest bit of what is left; and which numbers are powers of two.
+-- Which bucket is the next one up, by the lowest bit of what is left.
 -- Assumes nothing.
 use mathlib.Core.Path.{◌≡◌, sym, ap, ◌∙◌}
-use mathlib.Core.Bool.{true, false}
-use mathlib.Core.List.{map}
-use Prim.Native.Nat.{ℕ, suc, ◌+◌, ◌-◌, ◌/◌, ◌%◌, ◌^◌, ◌≤◌, ◌<◌}
+use Prim.Native.Nat.{ℕ, ◌+◌, ◌-◌, ◌/◌, ◌%◌, ◌^◌, ◌≤◌, ◌<◌}
 use native.Mathlib.Nat.{mod-lt, add-mod_right, mod-mod}
 use native.Mathlib.Omega.{arith}
 use lib.Pow.{pow_pos, pow_mono, shr-shr, split}
-use Rattle.lists.specs.Lists.{from}
 use Rattle.lists.proofs.Tests.{by_below}
-use Rattle.lists.proofs.Members.{has_yes, has_no}
-use Rattle.lists.proofs.Permutations.{from_none, from_some}
-use Rattle.lists.proofs.Places.{Lowest, bit_mod, below_lowest, less_pow}
-use Rattle.hashes.specs.Next.{is_power, low}
+use Rattle.lists.proofs.Places.{Lowest, bit_mod, below_lowest}
 use Rattle.hashes.specs.InnerSearch.{NextSet}
 use Rattle.hashes.proofs.StateLaws.{set_yes, set_no}
-
--- ---- the next bucket up
 
 -- the state's 63 bits, and bit 63 to end with
 abbrev pub ended : ℕ → ℕ
@@ -55,37 +47,3 @@ next_place s k t h l = record {
 
     inside : k + t ≤ 63
     inside = by_below 63 (k + t) (λ p. absurd (omega (arith, zero_at 63 h p, ended_top s))) (λ p. p)
-
--- ---- where the rising walk starts
-
-low_yes : (n : ℕ) → is_power (n + 1) ≡ true → low n ≡ n + 1
-unfolding low
-low_yes n e = rw e
-
-low_no : (n : ℕ) → is_power (n + 1) ≡ false → low n ≡ n
-unfolding low
-low_no n e = rw e
-
--- n+1 is the power of two of its highest bit
-pub low_skips : (n j : ℕ) → 0 < n → n ≤ 2 ^ 62 → 2 ^ j ≡ n + 1 → low n ≡ n + 1
-unfolding is_power
-low_skips n j p h e =
-    let up : 0 < j = less_pow 0 j (omega arith) in
-    let down : j < 63 = less_pow j 63 (omega arith) in
-    low_yes n (has_yes (n + 1) (map (λ (i : ℕ). 2 ^ i) (from 1 62)) (rw e at (from_some (λ (i : ℕ). 2 ^ i) j 1 62 up (omega arith))))
-
-pub low_stays : (n j : ℕ) → 2 ^ j ≤ n + 1 → n + 1 < 2 ^ suc j → (2 ^ j ≡ n + 1 → ⊥) → low n ≡ n
-unfolding is_power
-low_stays n j lo hi d =
-    low_no n (has_no (n + 1) (map (λ (i : ℕ). 2 ^ i) (from 1 62)) (from_none (λ (i : ℕ). 2 ^ i) (n + 1) 1 62
-    (λ i l u e.
-    let a : i < suc j = less_pow i (suc j) (omega arith) in
-    let b : j < suc i = less_pow j (suc i) (omega arith) in
-    let same : i ≡ j = omega arith in
-    d (rw same at e))))
-
-pub low_zero : low 0 ≡ 0
-unfolding is_power
-low_zero =
-    low_no 0 (has_no 1 (map (λ (i : ℕ). 2 ^ i) (from 1 62)) (from_none (λ (i : ℕ). 2 ^ i) 1 1 62
-    (λ i l u e. let m : 2 ^ 1 ≤ 2 ^ i = pow_mono l in absurd (omega arith))))

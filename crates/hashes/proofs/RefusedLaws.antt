@@ -12,7 +12,7 @@ use Rattle.lists.specs.Refusing.{Among, Spares}
 use Rattle.lists.proofs.Tests.{by_cond}
 use Rattle.hashes.specs.declared.ConsistentHashRevIterator.{ConsistentHashRevIterator}
 use Rattle.hashes.specs.Hashes.{prev}
-use Rattle.hashes.specs.Next.{next}
+use Rattle.hashes.specs.Next.{smallest_from}
 use Rattle.hashes.specs.Calls.{limited, prev_call, next_call}
 use Rattle.hashes.specs.Walks.{falling_from, rising_from, go_on_below, fall}
 use Rattle.hashes.specs.RefusedBy.{prev_refusals, next_refusals, walk_refusals, fall_refusals}
@@ -28,7 +28,7 @@ prev_refuses s n = limited_refuses prev_refusals n (prev s n) refl
 
 pub next_refuses : (s n : ℕ) → Among next_refusals (next_call s n)
 unfolding has same
-next_refuses s n = limited_refuses next_refusals n (next s n) refl
+next_refuses s n = limited_refuses next_refusals n (smallest_from s n) refl
 
 pub falling_refuses : (n s : ℕ) → Among walk_refusals (falling_from n s)
 unfolding has same

@@ -19,7 +19,7 @@ use Rattle.lists.proofs.Turns.{Turn, ended, gave, all_answers}
 use Rattle.hashes.specs.declared.ConsistentHashRevIterator.{ConsistentHashRevIterator}
 use Rattle.hashes.specs.declared.ConsistentHashIterator.{ConsistentHashIterator}
 use Rattle.hashes.specs.Hashes.{buckets, hashes, is_hash, prev}
-use Rattle.hashes.specs.Next.{low, smallest_from}
+use Rattle.hashes.specs.Next.{smallest_from}
 use Rattle.hashes.specs.Calls.{limited, prev_number}
 use Rattle.hashes.specs.Walks.{go_on_below, fall, hashes_below, rising_from, go_on_above, rise, hashes_from}
 use Rattle.hashes.proofs.StateLaws.{buckets_within}
@@ -84,7 +84,7 @@ hashes_lt : (s z : ℕ) → 0 < occurrences z (hashes s) → z < 2 ^ 63
 unfolding hashes
 hashes_lt s z h = occurrences_cons z 0 (buckets s 63) h (λ e. omega arith) (λ t. (buckets_within s 63 z t).1)
 
-smallest_here : (s m : ℕ) → is_hash s m ≡ true → smallest_from s m ≡ some m
+pub smallest_here : (s m : ℕ) → is_hash s m ≡ true → smallest_from s m ≡ some m
 unfolding smallest_from
 smallest_here s m e =
     pick_is by_min (keep (not_below m) (hashes s)) m (record {
@@ -148,10 +148,10 @@ rise_turn w h = go (smallest_from w.state w.low) refl
 pub rising_walk : (k s m : ℕ) → answers rise k (record { state = s; low = m }) ≡ one_by_one k (hashes_from s m)
 rising_walk k s m = all_answers rise_turn k (record { state = s; low = m }) tt
 
--- from `new n`: every hash from `low n` up
-pub rising_walk_new : (k n s : ℕ) (w : ConsistentHashIterator) → rising_from n s ≡ says w → answers rise k w ≡ one_by_one k (hashes_from s (low n))
+-- from `new n`: every hash from n up
+pub rising_walk_new : (k n s : ℕ) (w : ConsistentHashIterator) → rising_from n s ≡ says w → answers rise k w ≡ one_by_one k (hashes_from s n)
 unfolding limited
 rising_walk_new k n s w e =
     by_test (ltb (2 ^ 62) n)
     (λ y. not_said 1 w (rw y at e))
-    (λ m. subst (λ (z : ConsistentHashIterator). answers rise k z ≡ one_by_one k (hashes_from s (low n))) (said_same (record { state = s; low = low n }) w (rw m at e)) (rising_walk k s (low n)))
+    (λ m. subst (λ (z : ConsistentHashIterator). answers rise k z ≡ one_by_one k (hashes_from s n)) (said_same (record { state = s; low = n }) w (rw m at e)) (rising_walk k s n))

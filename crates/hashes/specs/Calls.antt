@@ -4,7 +4,7 @@ use Rattle.std.specs.Prelude.{cond, ℕ, ◌^◌, ltb}
 use Rattle.std.proofs.Math.Option.{Option, get_or}
 use Rattle.lists.specs.Told.{Told, refusal, says}
 use Rattle.hashes.specs.Hashes.{prev}
-use Rattle.hashes.specs.Next.{next}
+use Rattle.hashes.specs.Next.{smallest_from}
 
 -- 1: "n above .. 2^62 (hashes, choosers)"
 unfoldable pub limited : {A : Type 0} → ℕ → A → Told A
@@ -16,7 +16,7 @@ prev_call s n = limited n (prev s n)
 
 -- `next`
 abbrev pub next_call : ℕ → ℕ → Told (Option ℕ)
-next_call s n = limited n (next s n)
+next_call s n = limited n (smallest_from s n)
 
 -- prev as a number, for the laws and for choosers, who ask only for n above 0: 0 where there is none
 unfoldable pub prev_number : ℕ → ℕ → ℕ

@@ -8,7 +8,7 @@ use Rattle.lists.specs.Lists.{keep, from, down}
 use Rattle.hashes.specs.declared.ConsistentHashRevIterator.{ConsistentHashRevIterator}
 use Rattle.hashes.specs.declared.ConsistentHashIterator.{ConsistentHashIterator}
 use Rattle.hashes.specs.Hashes.{is_hash, prev}
-use Rattle.hashes.specs.Next.{low, smallest_from}
+use Rattle.hashes.specs.Next.{smallest_from}
 use Rattle.hashes.specs.Calls.{limited}
 
 -- ---- falling
@@ -32,9 +32,9 @@ hashes_below s n = keep (is_hash s) (down n)
 
 -- ---- rising
 
--- the walk from n up: it starts at `low n`
+-- the walk from n up: it starts at n itself
 abbrev pub rising_from : ℕ → ℕ → Told ConsistentHashIterator
-rising_from n s = limited n (record { state = s; low = low n })
+rising_from n s = limited n (record { state = s; low = n })
 
 -- after a hash the walk goes on above it; where there is none it stays
 abbrev pub go_on_above : ConsistentHashIterator → Option ℕ → Step ConsistentHashIterator

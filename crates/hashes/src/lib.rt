@@ -10,7 +10,6 @@ ghost use Rattle.lists.specs.Told.{says};
 ghost use Rattle.lists.specs.Steps.{stepped_to};
 ghost use Rattle.answers.specs.Refusals.{told, optional, told_option};
 ghost use Rattle.hashes.specs.Hashes.{feed};
-ghost use Rattle.hashes.specs.Next.{low};
 ghost use Rattle.hashes.specs.Calls.{prev_call, next_call};
 ghost use Rattle.hashes.specs.Walks.{falling_from, fall, rising_from, rise};
 
@@ -59,31 +58,15 @@ impl ConsistentHasher {
         self.prev(n)
     }
 
-    // The first hash of the rising walk from n; refusal 1 for an n above the limit.
+    // The smallest hash of n or more, with which the rising walk from n begins; refusal 1 for an n above the limit.
     pub fn next(self, n: u64) -> Result<Option<u64>, Refusal>
         ensures { told_option result ≡ next_call self.state n }
     {
         if Self::N_LIMIT < n {
             return Err(Refusal::NAboveLimit);
         }
-        Ok(search::smallest_from(self.state, low_of(n)))
+        Ok(search::smallest_from(self.state, n))
     }
-}
-
-// Where the rising walk from n starts. By the highest bit, since the library has no law that leads from `is_power_of_two`, a count of
-// ones, to a power.
-fn low_of(n: u64) -> u64
-    requires { n ≤ 2 ^ 62 }
-    ensures { result ≡ low n }
-{
-    if n == 0 {
-        return 0;
-    }
-    let above = n + 1;
-    if bits::power(bits::highest(above)) == above {
-        return above;
-    }
-    n
 }
 
 // The falling walk: every hash below n, one a call, the largest first. Afterwards n is the hash that was given.
@@ -134,15 +117,14 @@ impl ConsistentHashIterator {
     // The largest n.
     pub const N_LIMIT: u64 = ConsistentHasher::N_LIMIT;
 
-    // The walk from n up; refusal 1 for an n above the limit.
+    // The walk from n up, n itself included; refusal 1 for an n above the limit.
     pub fn new(n: u64, state: u64) -> Result<ConsistentHashIterator, Refusal>
         ensures { told result ≡ rising_from n state }
     {
         if Self::N_LIMIT < n {
             return Err(Refusal::NAboveLimit);
         }
-        let low = low_of(n);
-        Ok(ConsistentHashIterator { state, low })
+        Ok(ConsistentHashIterator { state, low: n })
     }
 
     // The next hash.

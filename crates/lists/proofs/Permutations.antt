@@ -19,17 +19,10 @@ pub from_length : (f : ℕ → ℕ) (a c : ℕ) → length (map f (from a c)) �
 from_length f a zero = refl
 from_length f a (suc c) = ap suc (from_length f (suc a) c)
 
-pub from_none : (f : ℕ → ℕ) (v a c : ℕ) → ((x : ℕ) → a ≤ x → x < a + c → f x ≢ v) → occurrences v (map f (from a c)) ≡ 0
+from_none : (f : ℕ → ℕ) (v a c : ℕ) → ((x : ℕ) → a ≤ x → x < a + c → f x ≢ v) → occurrences v (map f (from a c)) ≡ 0
 from_none f v a zero h = refl
 from_none f v a (suc c) h =
     rw (same_no (f a) v (h a (omega arith) (omega arith))) (from_none f v (suc a) c (λ x l u. h x (omega arith) (omega arith)))
-
-pub from_some : (f : ℕ → ℕ) (i a c : ℕ) → a ≤ i → i < a + c → 0 < occurrences (f i) (map f (from a c))
-from_some f i a zero l u = absurd (omega arith)
-from_some f i a (suc c) l u =
-    by_same (f a) (f i)
-    (λ e. rw (same_yes (f a) (f i) e) (omega arith))
-    (λ d. rw (same_no (f a) (f i) d) (by_same a i (λ e. absurd (d (ap f e))) (λ n. from_some f i (suc a) c (omega arith) (omega arith))))
 
 module _ {N : ℕ} {f g : ℕ → ℕ} (p : Permutation N f g) where
   from_all : (a c : ℕ) → a + c ≤ N → All (below N) (map f (from a c))

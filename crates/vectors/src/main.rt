@@ -21,10 +21,11 @@ use std::{fs, io};
 use tally::Tally;
 
 // The files of answers, each NAME.txt.
-const NAMES: [&str; 12] = [
+const NAMES: [&str; 13] = [
     "mix",
     "layers",
     "hashes",
+    "rising_starts",
     "orders",
     "reservoirs",
     "refusals",

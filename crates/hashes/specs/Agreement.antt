@@ -1,0 +1,27 @@
+-- Document 02, §4: "Falling and rising then agree": `AgreementHolds`, proved as `agree` (proofs/AgreeLaws.antt).
+-- Assumes nothing.
+use Rattle.std.specs.Prelude.{◌≡◌, true, ◌↔◌, ℕ, ◌+◌, ◌^◌, ◌<◌}
+use Rattle.std.proofs.Math.Option.{Option, some}
+use Rattle.lists.specs.Told.{Told, refusal, says}
+use Rattle.hashes.specs.declared.ConsistentHashIterator.{ConsistentHashIterator}
+use Rattle.hashes.specs.Hashes.{is_hash}
+use Rattle.hashes.specs.Calls.{prev_call, next_call}
+use Rattle.hashes.specs.Walks.{rising_from, rise}
+
+-- what the walk that `new` made begins with: what its first `next` gives
+abbrev pub begins : Told ConsistentHashIterator → Told (Option ℕ)
+begins (says w) = (rise w).said
+begins (refusal c) = refusal c
+
+-- "n is a hash exactly if ..
+pub record Agree (s n : ℕ) : Type 0 where
+  -- .. the rising walk from n begins with n": the walk itself, and what the hasher's `next` says of n
+  pub walk : (is_hash s n ≡ true) ↔ (begins (rising_from n s) ≡ says (some n))
+  pub next : (is_hash s n ≡ true) ↔ (next_call s n ≡ says (some n))
+  -- ".. and exactly if prev of n+1 is n"
+  pub prev : (is_hash s n ≡ true) ↔ (prev_call s (n + 1) ≡ says (some n))
+
+-- "for n below 2^62", and every state
+abbrev pub AgreementHolds : Type 0
+AgreementHolds =
+    (s n : ℕ) → n < 2 ^ 62 → Agree s n
