@@ -124,11 +124,7 @@ pub fn falling_steps(draws: &mut Draws) -> Option<String> {
 }
 
 /// The rising walk from n beside one that is given.
-fn rising(
-    state: u64,
-    n: u64,
-    theirs: impl Iterator<Item = usize>,
-) -> Option<String> {
+fn rising(state: u64, n: u64, theirs: impl Iterator<Item = usize>) -> Option<String> {
     stepped(
         format!("state {state:#x} n {n:#x}"),
         n,
@@ -163,6 +159,13 @@ pub fn skipped_starts(draws: &mut Draws) -> Option<String> {
     );
     differ(format!("state {state:#x} n {n:#x}"), ours, theirs)
         .or_else(|| rising(state, n, hashes.into_iter().map(|x| x as usize)))
+}
+
+/// The rising walk of a record made by hand, whose `low` may be any: by document 02, likewise.
+pub fn rising_handmade(draws: &mut Draws) -> Option<String> {
+    let (state, low) = (state(draws), word(draws));
+    let hashes = oracle::hashes_from(state, low);
+    rising(state, low, hashes.into_iter().map(|x| x as usize))
 }
 
 /// All calls that refuse, with an n above the limit: by document 01, since the original answers there too.

@@ -81,13 +81,14 @@ const CALLS: [(&str, u64, Trial); 39] = [
 
 /// What is compared besides, and how many inputs of it to a million of those. The program has a process of its own for each input, so few
 /// of them.
-const BESIDES: [(&str, u64, Trial); 2] = [
+const BESIDES: [(&str, u64, Trial); 3] = [
     ("the line program, whole inputs", 200, lines::inputs),
     (
         "rising, where the original skips its start",
         10_000,
         hashes::skipped_starts,
     ),
+    ("rising walks made by hand", 10_000, hashes::rising_handmade),
 ];
 
 fn main() {
