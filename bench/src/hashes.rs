@@ -38,16 +38,21 @@ pub fn all() {
     let count = 1 << 17;
     for (size, n) in SIZES {
         let mut draws = Draws(1);
-        // Not where the original's rising walk skips n: there the two answer differently.
-        let inputs: Vec<_> = std::iter::repeat_with(|| (draws.next(), n(&mut draws)))
+        let drawn: Vec<_> = (0..count).map(|_| (draws.next(), n(&mut draws))).collect();
+        // Where the original's rising walk skips n the two answer differently.
+        let starts: Vec<_> = drawn
+            .iter()
+            .copied()
             .filter(|&(_, n)| !oracle::skips(n))
-            .take(count as usize)
             .collect();
-        let ours = || answers(&inputs, |state, n| proved::prev(state, n).unwrap());
-        let theirs = || answers(&inputs, prev);
+        let ours = || answers(&drawn, |state, n| proved::prev(state, n).unwrap());
+        let theirs = || answers(&drawn, prev);
         report(&format!("prev, {size}"), measure(count, ours, theirs));
-        let ours = || answers(&inputs, |state, n| proved::next(state, n).unwrap());
-        let theirs = || answers(&inputs, next);
-        report(&format!("next, {size}"), measure(count, ours, theirs));
+        let ours = || answers(&starts, |state, n| proved::next(state, n).unwrap());
+        let theirs = || answers(&starts, next);
+        report(
+            &format!("next, {size}"),
+            measure(starts.len() as u64, ours, theirs),
+        );
     }
 }

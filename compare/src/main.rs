@@ -1,6 +1,6 @@
-//! The proved library against the original on random and boundary inputs, and against document 01's steps on memory made by
-//! hand; the proved line program against one over the original's types. compare [N]: N million inputs (default 1). Prints the
-//! first difference with its input, and ends with status 1.
+//! The proved library against the original on random and boundary inputs, and against the documents on memory made by hand and from
+//! where the original's rising walk skips its start; the proved line program against one over the original's types. compare [N]: N
+//! million inputs (default 1). Prints the first difference with its input, and ends with status 1.
 
 mod choosers;
 mod document;

@@ -165,8 +165,8 @@ const HASHES: &[Claim] = &[
     .panics_in_debug(),
     claim(
         "bit 2^63 of the state",
-        "state 2^63, n = 1: `next` is none in both, a panic in a debug build of the original",
-        || hexadecimal(next(BIT_63, 1)),
+        "state 2^63, n = 2: `next` is none in both, a panic in a debug build of the original",
+        || hexadecimal(next(BIT_63, 2)),
         "none",
     )
     .panics_in_debug(),

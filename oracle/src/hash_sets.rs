@@ -1,4 +1,6 @@
-//! The sets of hashes: answers of the original for states and numbers n, and refusals.
+//! The sets of hashes: answers of the original for states and numbers n, of document 02 from where the original skips n, and refusals.
+
+use std::collections::HashSet;
 
 use oracle::{
     digest, falling_digest, hashes_from, into_prev, next, prev, rising_digest, seq_builder, skips,
@@ -112,6 +114,11 @@ fn pairs() -> Vec<(u64, u64)> {
     pairs
 }
 
+/// A letter, the state, n and the answer.
+fn line((letter, call): Call, state: u64, n: u64) -> String {
+    format!("{letter} {state:x} {n:x} {:x}", call(state, n))
+}
+
 /// `s state i answer`.
 fn seq_builders() -> Vec<String> {
     let mut draws = Draws(4);
@@ -126,11 +133,6 @@ fn seq_builders() -> Vec<String> {
         .collect()
 }
 
-/// A letter, the state, n and the answer.
-fn line((letter, call): Call, state: u64, n: u64) -> String {
-    format!("{letter} {state:x} {n:x} {:x}", call(state, n))
-}
-
 /// Those, then a letter of `CALLS`, the state, n and the answer. What rises from where the original skips is left out.
 pub fn hashes() -> Vec<String> {
     let mut lines = seq_builders();
@@ -141,24 +143,30 @@ pub fn hashes() -> Vec<String> {
     lines
 }
 
-/// What is left out there: a letter of `RISING`, the state, an n with n+1 a power of two from 2 up, and the answer.
-pub fn rising_starts() -> Vec<String> {
-    let mut starts = pairs();
-    starts.retain(|&(_, n)| skips(n));
+/// The starts that are left out there, and more: the laws' examples, and states of which n is a hash.
+fn skipped_starts() -> Vec<(u64, u64)> {
     let mut draws = Draws(12);
+    let mut starts = vec![(1, 1), (3, 3), (5, 7)];
+    starts.extend(pairs().into_iter().filter(|&(_, n)| skips(n)));
     for bit in 1..=62 {
         let n = (1 << bit) - 1;
         starts.extend(STATES.map(|state| (state, n)));
-        starts.push((1 << (bit - 1), n));
-        starts.push((draws.next(), n));
+        starts.extend([(1 << (bit - 1), n), (draws.next(), n)]);
     }
     for bit in 1..=20 {
         starts.push((skipping(bit, &mut draws), (1 << bit) - 1));
     }
-    let lines = starts
-        .iter()
-        .flat_map(|&(state, n)| RISING.map(|call| line(call, state, n)));
-    lines.collect()
+    let mut seen = HashSet::new();
+    starts.retain(|&start| seen.insert(start));
+    starts
+}
+
+/// A letter of `RISING`, the state, an n with n+1 a power of two from 2 up, and the answer.
+pub fn rising_starts() -> Vec<String> {
+    let lines = skipped_starts().into_iter();
+    lines
+        .flat_map(|(state, n)| RISING.map(|call| line(call, state, n)))
+        .collect()
 }
 
 /// A letter, the state, an n above the limit, and 2^63 + 1: by document 01, since the original answers there too.

@@ -8,9 +8,8 @@ use native.Mathlib.Omega.{arith}
 use native.Mathlib.Numerals.{add-one}
 use Rattle.std.specs.Prelude.{◌↔◌}
 use Rattle.lists.specs.Told.{Told, says}
-use Rattle.lists.specs.Lists.{keep, not_below}
-use Rattle.lists.proofs.Members.{keep_within}
-use Rattle.lists.proofs.Extremes.{by_min, pick_extreme}
+use Rattle.lists.specs.Lists.{not_below}
+use Rattle.lists.proofs.Extremes.{by_min, picked_within}
 use Rattle.lists.proofs.Tolds.{said_same}
 use Rattle.hashes.specs.declared.ConsistentHashIterator.{ConsistentHashIterator}
 use Rattle.hashes.specs.Hashes.{hashes, is_hash, prev}
@@ -30,7 +29,7 @@ exactly t o e there back = (λ y. e ∙ ap says (there y), λ g. back (said_same
 
 smallest_back : (s n : ℕ) → smallest_from s n ≡ some n → is_hash s n ≡ true
 unfolding smallest_from
-smallest_back s n e = occurrences_hash s n (keep_within (not_below n) n (hashes s) (pick_extreme by_min (keep (not_below n) (hashes s)) n e).there)
+smallest_back s n e = occurrences_hash s n (picked_within by_min (not_below n) (hashes s) n e)
 
 prev_there : (s n : ℕ) → is_hash s n ≡ true → prev s (n + 1) ≡ some n
 prev_there s n e = rw (add-one n) (prev_suc_yes s n e)

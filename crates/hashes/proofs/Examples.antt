@@ -31,7 +31,7 @@ unfolding answers rise smallest_from not_below hashes buckets bucket is_set buck
 rising_example = refl
 
 -- Document 02, §4: "misses a slot when it starts just below a power of two". 1, 3 and 7 are hashes of these states, by the original's
--- prev of 2, 4 and 8 too, and rising from each begins with it.
+-- falling walk too, and rising from each begins with it.
 pub start_1 : (hashes 1 ≡ 0 ∷ 1 ∷ []) × (next_call 1 1 ≡ says (some 1))
 unfolding limited smallest_from not_below hashes buckets bucket is_set bucket_hashes bucket_draws draws draw feed numbers later_numbers mix wrapping_mul
 start_1 = (refl, refl)

@@ -8,7 +8,7 @@ use native.Mathlib.Omega.{arith}
 use Rattle.lists.specs.Lists.{keep, below, occurrences}
 use Rattle.lists.proofs.Tests.{below_yes, below_no, below→lt, by_below}
 use Rattle.lists.proofs.Members.{has_yes, has→occurrences, not_has→occurrences, occurrences_keep_yes, keep_passes, keep_within, keep_agree}
-use Rattle.lists.proofs.Extremes.{Extreme, AtMost, by_max, pick_is, pick_extreme}
+use Rattle.lists.proofs.Extremes.{Extreme, AtMost, by_max, pick_is, pick_extreme, picked_within}
 use Rattle.hashes.specs.Hashes.{hashes, is_hash, prev}
 use Rattle.hashes.specs.Calls.{prev_number}
 use Rattle.hashes.proofs.PrevLaws.{prev_is}
@@ -44,7 +44,8 @@ prev_below s n h = below→lt (keep_passes (below n) (prev_number s n) (hashes s
 
 -- it is a hash
 pub prev_is_hash : (s n : ℕ) → 0 < n → is_hash s (prev_number s n) ≡ true
-prev_is_hash s n h = occurrences_hash s (prev_number s n) (keep_within (below n) (prev_number s n) (hashes s) (extreme s n h).there)
+unfolding prev
+prev_is_hash s n h = occurrences_hash s (prev_number s n) (picked_within by_max (below n) (hashes s) (prev_number s n) (prev_is s n h))
 
 -- no hash lies between it and n
 pub prev_between : (s n x : ℕ) → is_hash s x ≡ true → x < n → x ≤ prev_number s n

@@ -11,7 +11,7 @@ use native.Mathlib.Numerals.{add-one}
 use Rattle.lists.specs.Lists.{keep, not_below, occurrences, join, smallest}
 use Rattle.lists.proofs.Tests.{not_below_yes, not_below_no, by_test, by_below}
 use Rattle.lists.proofs.Members.{keep_within, keep_none, keep_append}
-use Rattle.lists.proofs.Extremes.{by_min, or_else, pick_first, pick_extreme}
+use Rattle.lists.proofs.Extremes.{by_min, or_else, pick_first, picked_within}
 use Rattle.hashes.specs.Hashes.{is_set, bucket, buckets, hashes}
 use Rattle.hashes.specs.Next.{smallest_from}
 use Rattle.hashes.specs.InnerSearch.{numbers_of, least_from, NextSet}
@@ -64,7 +64,7 @@ up_skip s m k j t =
 -- what is found is there
 up_there : (s m k z : ℕ) → up_to s m k ≡ some z → 0 < occurrences z (buckets s k)
 unfolding up_to
-up_there s m k z e = keep_within (not_below m) z (buckets s k) (pick_extreme by_min (keep (not_below m) (buckets s k)) z e).there
+up_there s m k z e = picked_within by_min (not_below m) (buckets s k) z e
 
 -- ---- all buckets
 

@@ -1,4 +1,4 @@
--- The two walks. Document 01: "Both hash walks, one hash a call, then none."
+-- The two walks. Document 01: "Both hash walks, one hash a call, then none." Where the rising one starts is document 02's, §4.
 -- Assumes nothing.
 use Rattle.std.specs.Prelude.{cond, List, ℕ, ◌+◌, ◌-◌, ◌^◌, ltb}
 use Rattle.std.proofs.Math.Option.{Option, none, some}

@@ -5,7 +5,7 @@ mod bits;
 mod buckets;
 mod search;
 
-ghost use Rattle.std.specs.Prelude.{◌≡◌, ◌^◌, ◌≤◌};
+ghost use Rattle.std.specs.Prelude.{◌≡◌};
 ghost use Rattle.lists.specs.Told.{says};
 ghost use Rattle.lists.specs.Steps.{stepped_to};
 ghost use Rattle.answers.specs.Refusals.{told, optional, told_option};

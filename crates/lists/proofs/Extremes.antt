@@ -1,14 +1,15 @@
 -- The largest and the smallest entry of a list: one set of laws for both, over an order and what chooses by it.
 -- Assumes nothing.
 use mathlib.Core.Path.{◌≡◌, refl, ap}
+use mathlib.Core.Bool.{Bool}
 use mathlib.Core.Logic.{◌⊎◌, inl, inr, ⊎_elim}
 use mathlib.Core.List.{List, [], ◌∷◌, ◌++◌, append-nil}
 use mathlib.Core.Option.{Option, none, some}
 use Prim.Native.Nat.{ℕ, ◌≤◌, ◌<◌, max, min}
 use native.Mathlib.Omega.{arith}
-use Rattle.lists.specs.Lists.{occurrences, join, pick}
+use Rattle.lists.specs.Lists.{keep, occurrences, join, pick}
 use Rattle.lists.proofs.Tests.{by_below}
-use Rattle.lists.proofs.Members.{occurrences_head, occurrences_tail, occurrences_cons, occurrences_append}
+use Rattle.lists.proofs.Members.{occurrences_head, occurrences_tail, occurrences_cons, occurrences_append, keep_within}
 
 -- op chooses one of two by the order R, in which R x y says that y is as good as x
 pub record Chooses (op : ℕ → ℕ → ℕ) (R : ℕ → ℕ → Type 0) : Type 0 where
@@ -74,6 +75,10 @@ module _ {op : ℕ → ℕ → ℕ} {R : ℕ → ℕ → Type 0} (C : Chooses op
   pub pick_extreme : (xs : List ℕ) (y : ℕ) → pick op xs ≡ some y → Extreme R xs y
   pick_extreme [] y e = let z : ◌≡◌ {A = ℕ} 0 1 = cc in absurd (omega arith)
   pick_extreme (x ∷ xs) y e = let q : join op x (pick op xs) ≡ y = cc in rw q at (extreme_of x xs)
+
+  -- what is picked of the entries that pass a test stands in the list
+  pub picked_within : (p : ℕ → Bool) (xs : List ℕ) (y : ℕ) → pick op (keep p xs) ≡ some y → 0 < occurrences y xs
+  picked_within p xs y e = keep_within p y xs (pick_extreme (keep p xs) y e).there
 
   pub pick_is : (xs : List ℕ) (y : ℕ) → Extreme R xs y → pick op xs ≡ some y
   pick_is [] y e = absurd (omega (arith, e.there))
