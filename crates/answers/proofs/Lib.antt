@@ -1,1 +1,4 @@
-pub mod Tolds
+pub mod AnswerLaws
+pub mod BackLaws
+pub mod Spared
+pub mod Turns

@@ -2,7 +2,7 @@
 -- Assumes nothing.
 use Rattle.std.specs.Prelude.{ℕ, Option, Some, None, Result, Ok, Err}
 use Rattle.std.proofs.Math.Option as maybe
-use Rattle.lists.specs.Told.{Told, refusal, says, map_told}
+use Rattle.answers.specs.Answers.{Answer, refusal, result, map_answer}
 use Rattle.answers.specs.declared.Refusal.{Refusal}
 use Rattle.answers.specs.declared.Refusal.TheVariants.{NAboveLimit, KIsZero, KAboveN, ShortMemory, CannotShrink, AllChosen, NumbersWait, TopLayer, NoSlotLeft, SlotNotActive, NoneActive, Misfit}
 
@@ -34,9 +34,9 @@ number NoneActive = 11
 number Misfit = 12
 
 -- what a call says: its refusal's number, or its answer
-abbrev pub told : {A : Type 0} → Result A Refusal → Told A
-told (Ok x) = says x
-told (Err why) = refusal (number why)
+abbrev pub answer_of : {A : Type 0} → Result A Refusal → Answer A
+answer_of (Ok x) = result x
+answer_of (Err why) = refusal (number why)
 
 -- what was found, or none
 abbrev pub optional : {A : Type 0} → Option A → maybe.Option A
@@ -44,5 +44,5 @@ optional (Some x) = maybe.some x
 optional None = maybe.none
 
 -- what a call says that may find nothing
-abbrev pub told_option : {A : Type 0} → Result (Option A) Refusal → Told (maybe.Option A)
-told_option r = map_told optional (told r)
+abbrev pub answer_of_option : {A : Type 0} → Result (Option A) Refusal → Answer (maybe.Option A)
+answer_of_option r = map_answer optional (answer_of r)

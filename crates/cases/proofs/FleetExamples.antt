@@ -5,7 +5,7 @@ use mathlib.Core.Path.{◌≡◌, refl}
 use mathlib.Core.List.{[], ◌∷◌}
 use lib.ListN.{take}
 use Prim.Native.Nat.{ℕ}
-use Rattle.lists.specs.Told.{says, refusal}
+use Rattle.answers.specs.Answers.{result, refusal}
 use Rattle.lists.specs.Lists.{below, same, has}
 use Rattle.words.specs.Words.{rotate_right}
 use Rattle.layers.specs.Layer.{start, round_function, next_key, round, rounds, over, layer, top_bits}
@@ -29,7 +29,7 @@ pub short_list : reply reached 64 512 admit ≡ refusal 4
 unfolding reply answer opening due kth P whole layer_of log2 below same has output counted zero_top top_bits layer start rounds round round_function next_key over rotate_right
 short_list = refl
 
-pub long_list : reply reached 8192 512 admit ≡ says (64 ∷ 14 ∷ [])
+pub long_list : reply reached 8192 512 admit ≡ result (64 ∷ 14 ∷ [])
 unfolding reply answer opening due kth P whole layer_of log2 below same has output counted zero_top top_bits layer start rounds round round_function next_key over rotate_right
 long_list = refl
 

@@ -4,8 +4,8 @@ use mathlib.Core.Path.{◌≡◌, refl}
 use mathlib.Core.List.{[], ◌∷◌}
 use mathlib.Core.Option.{none, some}
 use Prim.Native.Nat.{ℕ}
-use Rattle.lists.specs.Told.{says, refusal}
-use Rattle.lists.specs.Steps.{answers}
+use Rattle.answers.specs.Answers.{result, refusal}
+use Rattle.answers.specs.Steps.{answers}
 use Rattle.lists.specs.Lists.{below, not_below, every, standing, last, written}
 use Rattle.words.specs.Words.{rotate_right}
 use Rattle.layers.specs.Layer.{start, round_function, next_key, round, rounds, over, layer, top_bits}
@@ -23,7 +23,7 @@ unfolding P whole layer_of log2 below output counted zero_top top_bits layer sta
 order_of_20 = refl
 
 -- a call each, then none
-pub calls_of_5 : answers next_call 6 (order_of 0 5 none_counted) ≡ says (some 0) ∷ says (some 4) ∷ says (some 3) ∷ says (some 2) ∷ says (some 1) ∷ says none ∷ []
+pub calls_of_5 : answers next_call 6 (order_of 0 5 none_counted) ≡ result (some 0) ∷ result (some 4) ∷ result (some 3) ∷ result (some 2) ∷ result (some 1) ∷ result none ∷ []
 unfolding answers next_call within every layer_of log2 below output counted zero_top top_bits layer start rounds round round_function next_key over rotate_right
 calls_of_5 = refl
 
@@ -37,11 +37,11 @@ unfolding next_call within every layer_of log2 below output counted zero_top top
 counter_met = refl
 
 -- key 0, k 2, n 4: an admit that looks through 8 outputs of layer 1 and ends with 5 places
-pub opened_2_of_4 : open_call 2 4 0 (9 ∷ 9 ∷ 9 ∷ 9 ∷ 9 ∷ []) ≡ after_open (says (reservoir_of 0 2 4 0 2)) (0 ∷ 3 ∷ 9 ∷ 9 ∷ 9 ∷ [])
+pub opened_2_of_4 : open_call 2 4 0 (9 ∷ 9 ∷ 9 ∷ 9 ∷ 9 ∷ []) ≡ after_open (result (reservoir_of 0 2 4 0 2)) (0 ∷ 3 ∷ 9 ∷ 9 ∷ 9 ∷ [])
 unfolding open_call opening written P whole layer_of log2 below output counted zero_top top_bits layer start rounds round round_function next_key over rotate_right
 opened_2_of_4 = refl
 
-pub admitted_by_growth : admit_call (reservoir_of 0 2 4 0 2) (0 ∷ 3 ∷ 9 ∷ 9 ∷ 9 ∷ []) ≡ after (says (some (4, 3))) (reservoir_of 0 2 5 1 5) (13 ∷ 12 ∷ 11 ∷ 0 ∷ 4 ∷ [])
+pub admitted_by_growth : admit_call (reservoir_of 0 2 4 0 2) (0 ∷ 3 ∷ 9 ∷ 9 ∷ 9 ∷ []) ≡ after (result (some (4, 3))) (reservoir_of 0 2 5 1 5) (13 ∷ 12 ∷ 11 ∷ 0 ∷ 4 ∷ [])
 unfolding admit_call fitting sample every last exchange exchange_by incoming not_below standing written grown up_to_zeros wider below zero_top top_bits layer start rounds round round_function next_key over rotate_right
 admitted_by_growth = refl
 
@@ -51,11 +51,11 @@ unfolding admit_call fitting sample every last exchange exchange_by incoming not
 too_short = refl
 
 -- key 3, k 1, n 1: layer 1 is passed over
-pub layer_skipped : admit_call (reservoir_of 3 1 1 0 1) (0 ∷ 9 ∷ []) ≡ after (says (some (19, 0))) (reservoir_of 3 1 20 2 2) (47 ∷ 19 ∷ [])
+pub layer_skipped : admit_call (reservoir_of 3 1 1 0 1) (0 ∷ 9 ∷ []) ≡ after (result (some (19, 0))) (reservoir_of 3 1 20 2 2) (47 ∷ 19 ∷ [])
 unfolding admit_call fitting sample every last exchange exchange_by incoming not_below standing written grown up_to_zeros wider below zero_top top_bits layer start rounds round round_function next_key over rotate_right
 layer_skipped = refl
 
 -- a record that no open reached: 5 stands twice
-pub twice_listed : admit_call (reservoir_of 0 1 2 1 3) (5 ∷ 5 ∷ 1 ∷ []) ≡ after (says (some (5, 1))) (reservoir_of 0 1 6 1 2) (5 ∷ 5 ∷ 1 ∷ [])
+pub twice_listed : admit_call (reservoir_of 0 1 2 1 3) (5 ∷ 5 ∷ 1 ∷ []) ≡ after (result (some (5, 1))) (reservoir_of 0 1 6 1 2) (5 ∷ 5 ∷ 1 ∷ [])
 unfolding admit_call fitting sample every last exchange exchange_by incoming not_below standing written below
 twice_listed = refl

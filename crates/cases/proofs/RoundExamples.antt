@@ -6,7 +6,7 @@ use native.Mathlib.Omega.{arith}
 use mathlib.Core.List.{List, [], ◌∷◌}
 use mathlib.Core.Option.{some}
 use Prim.Native.Nat.{ℕ}
-use Rattle.lists.specs.Told.{Told, says, refusal}
+use Rattle.answers.specs.Answers.{Answer, result, refusal}
 use Rattle.lists.specs.Lists.{below, not_below, same, has, every, standing, last, other, written, lacked}
 use Rattle.words.specs.Words.{mix, wrapping_mul, rotate_right}
 use Rattle.layers.specs.Layer.{start, round_function, next_key, round, rounds, over, layer, top_bits}
@@ -40,7 +40,7 @@ record_of n j total = record { master_key = key; k = 2; n = n; j_max = j; used =
 abbrev begin : State
 begin = state (record_of 3 0 0) (0 ∷ 1 ∷ 77 ∷ 77 ∷ 77 ∷ 77 ∷ 77 ∷ 77 ∷ []) (9 ∷ 8 ∷ 7 ∷ [])
 
-opened : open_call key 2 3 (77 ∷ 77 ∷ 77 ∷ 77 ∷ 77 ∷ 77 ∷ 77 ∷ 77 ∷ []) ≡ after_open (says begin.round) begin.list
+opened : open_call key 2 3 (77 ∷ 77 ∷ 77 ∷ 77 ∷ 77 ∷ 77 ∷ 77 ∷ 77 ∷ []) ≡ after_open (result begin.round) begin.list
 unfolding open_call Reservoir.open_call opening written P whole layer_of log2 below output counted zero_top top_bits layer start rounds round round_function next_key over rotate_right
 opened = refl
 
@@ -51,10 +51,10 @@ abbrev calls : List Call
 calls = join ∷ join ∷ admit ∷ withdraw 5 ∷ join ∷ join ∷ admit ∷ withdraw 1 ∷ admit ∷ withdraw 2 ∷ join ∷ admit ∷ admit ∷ []
 
 -- refused are the withdraw of 5 (10), the fourth join (9) and the last admit (4)
-abbrev said : List (Told (List ℕ))
+abbrev said : List (Answer (List ℕ))
 said =
-    says (0 ∷ []) ∷ says (1 ∷ []) ∷ says (6 ∷ 1 ∷ []) ∷ refusal 10 ∷ says (2 ∷ []) ∷ refusal 9 ∷ says (7 ∷ 6 ∷ []) ∷ says [] ∷ says (9 ∷ 7 ∷ []) ∷ says [] ∷ says (1 ∷ [])
-    ∷ says (13 ∷ 0 ∷ []) ∷ refusal 4 ∷ []
+    result (0 ∷ []) ∷ result (1 ∷ []) ∷ result (6 ∷ 1 ∷ []) ∷ refusal 10 ∷ result (2 ∷ []) ∷ refusal 9 ∷ result (7 ∷ 6 ∷ []) ∷ result [] ∷ result (9 ∷ 7 ∷ []) ∷ result [] ∷ result (1 ∷ [])
+    ∷ result (13 ∷ 0 ∷ []) ∷ refusal 4 ∷ []
 
 pub all_said_lem : all_said begin calls ≡ said
 unfolding all_said call admit_call join_call withdraw_call fitting Reservoir.fitting Reservoir.sample Reservoir.admit_call Reservoir.exchange Reservoir.exchange_by Slots.fitting Slots.add_call Slots.remove_call every last incoming not_below standing written grown up_to_zeros wider below zero_top top_bits layer start rounds round round_function next_key over rotate_right vacant deleted active
@@ -65,7 +65,7 @@ all_said_lem = refl
 abbrev wide : State
 wide = state (record { master_key = key; k = 2; n = 7; j_max = 1; used = 7; total = 2 }) (9 ∷ 13 ∷ 0 ∷ 7 ∷ 12 ∷ 8 ∷ 6 ∷ 77 ∷ []) (1 ∷ 1 ∷ 7 ∷ [])
 
-pub made_both : AllMade begin (join ∷ join ∷ admit ∷ withdraw 5 ∷ []) (says (0 ∷ []) ∷ says (1 ∷ []) ∷ says (6 ∷ 1 ∷ []) ∷ refusal 10 ∷ []) wide
+pub made_both : AllMade begin (join ∷ join ∷ admit ∷ withdraw 5 ∷ []) (result (0 ∷ []) ∷ result (1 ∷ []) ∷ result (6 ∷ 1 ∷ []) ∷ refusal 10 ∷ []) wide
 unfolding admit_call join_call withdraw_call fitting Reservoir.fitting Reservoir.sample Reservoir.admit_call Reservoir.exchange Reservoir.exchange_by Slots.fitting Slots.add_call Slots.remove_call every last incoming not_below standing written grown up_to_zeros wider below zero_top top_bits layer start rounds round round_function next_key over rotate_right vacant deleted active
 made_both =
     made_next (join_left (rust.Ok 0) (record_of 3 0 1) (1 ∷ 8 ∷ 7 ∷ []) refl)
@@ -95,7 +95,7 @@ reached = record {
 }
 
 -- its plan, over the first two places of lists of three: location 9 to terminal 0, 13 to terminal 1
-pub planned : plan_call end (5 ∷ 5 ∷ 5 ∷ []) (6 ∷ 6 ∷ 6 ∷ []) 3 ≡ after_plan (says tt) (9 ∷ 13 ∷ 5 ∷ []) (0 ∷ 1 ∷ 6 ∷ [])
+pub planned : plan_call end (5 ∷ 5 ∷ 5 ∷ []) (6 ∷ 6 ∷ 6 ∷ []) 3 ≡ after_plan (result tt) (9 ∷ 13 ∷ 5 ∷ []) (0 ∷ 1 ∷ 6 ∷ [])
 unfolding plan_call terminal_of fitting Reservoir.fitting Reservoir.sample Slots.fitting every last written below actives active holder state_of Q lacked has same S largest_g g prev_number prev hashes buckets bucket is_set bucket_hashes bucket_draws draws draw feed numbers later_numbers mix wrapping_mul
 planned = refl
 
@@ -110,12 +110,12 @@ pub fed_all_lem : fed_all (first_ledger key 2 3) calls (refusals said) ≡ ledge
 unfolding fed_all accept free_slot due has same other P whole layer_of log2 below output counted zero_top top_bits layer start rounds round round_function next_key over rotate_right
 fed_all_lem = refl
 
-pub ledger_plan_lem : ledger_plan (ledger key 2 14 (1 ∷ 0 ∷ []) 2) ≡ says (sheet 9 (some 0) ∷ sheet 13 (some 1) ∷ [])
+pub ledger_plan_lem : ledger_plan (ledger key 2 14 (1 ∷ 0 ∷ []) 2) ≡ result (sheet 9 (some 0) ∷ sheet 13 (some 1) ∷ [])
 unfolding plan_from P whole layer_of log2 output counted zero_top top_bits layer start rounds round round_function next_key over rotate_right below slot_of slot_among state_of Q lacked has same S largest_g g prev_number prev hashes buckets bucket is_set bucket_hashes bucket_draws draws draw feed numbers later_numbers mix wrapping_mul
 ledger_plan_lem = refl
 
 -- so the round reached has a plan, as demand 3 has it
-pub plan_of : PlanOf end (says (sheet 9 (some 0) ∷ sheet 13 (some 1) ∷ []))
+pub plan_of : PlanOf end (result (sheet 9 (some 0) ∷ sheet 13 (some 1) ∷ []))
 unfolding shown_plan
 plan_of = record {
   ls = 5 ∷ 5 ∷ 5 ∷ [];

@@ -2,7 +2,7 @@
 -- Assumes nothing.
 use Rattle.std.specs.Prelude.{◌≡◌, List, [], ◌∷◌, ℕ, ◌^◌}
 use Rattle.std.proofs.Math.Option.{none, some}
-use Rattle.lists.specs.Told.{says}
+use Rattle.answers.specs.Answers.{result}
 use Rattle.layers.specs.declared.feistel.Halves.{Halves}
 use Rattle.layers.specs.Layer.{round}
 use Rattle.orders.specs.Orders.{layer_of, P}
@@ -81,15 +81,15 @@ pub record Table : Type 0 where
   pub shrink_of_3 : (s : ℕ) → shrink_call (chooser_of s 3 3) (0 ∷ 1 ∷ 2 ∷ []) ≡ choosers.refused 5 (chooser_of s 3 3) (0 ∷ 1 ∷ 2 ∷ [])
   -- "Three joins, then withdraw 1, 2 (count 2) or 2, 1 (count 1): the next join gives 1."
   pub count_after_1_2 : (a b c : ℕ) → (withdraw 2 (withdraw 1 (three_joins a b c))).map ≡ map_of 2
-  pub join_after_1_2 : (a b c : ℕ) → (let h = withdraw 2 (withdraw 1 (three_joins a b c)) in (add_call h.map h.table).told) ≡ says 1
+  pub join_after_1_2 : (a b c : ℕ) → (let h = withdraw 2 (withdraw 1 (three_joins a b c)) in (add_call h.map h.table).answer) ≡ result 1
   pub count_after_2_1 : (a b c : ℕ) → (withdraw 1 (withdraw 2 (three_joins a b c))).map ≡ map_of 1
-  pub join_after_2_1 : (a b c : ℕ) → (let h = withdraw 1 (withdraw 2 (three_joins a b c)) in (add_call h.map h.table).told) ≡ says 1
+  pub join_after_2_1 : (a b c : ℕ) → (let h = withdraw 1 (withdraw 2 (three_joins a b c)) in (add_call h.map h.table).answer) ≡ result 1
   -- "List 7, 1, 5, 2 with k = 2, n = 3, j = 1: admit in 5, out 2, list 7, 1, 5, n 6.", under every key: the fourth place of
   -- the list is not in use afterwards, and nothing is written
-  pub admit_5 : (key : ℕ) → admit_call (reservoir_of key 2 3 1 4) (7 ∷ 1 ∷ 5 ∷ 2 ∷ []) ≡ after (says (some (5, 2))) (reservoir_of key 2 6 1 3) (7 ∷ 1 ∷ 5 ∷ 2 ∷ [])
+  pub admit_5 : (key : ℕ) → admit_call (reservoir_of key 2 3 1 4) (7 ∷ 1 ∷ 5 ∷ 2 ∷ []) ≡ after (result (some (5, 2))) (reservoir_of key 2 6 1 3) (7 ∷ 1 ∷ 5 ∷ 2 ∷ [])
   -- The last two rows once more, of the round's own calls.
   pub round_count_1_2 : (key a b c : ℕ) → (withdrawn 2 (withdrawn 1 (three_joined key a b c))).round ≡ round_of key 1 1 0 1 2
-  pub round_join_1_2 : (key a b c : ℕ) → (join_call (withdrawn 2 (withdrawn 1 (three_joined key a b c)))).told ≡ says 1
+  pub round_join_1_2 : (key a b c : ℕ) → (join_call (withdrawn 2 (withdrawn 1 (three_joined key a b c)))).answer ≡ result 1
   pub round_count_2_1 : (key a b c : ℕ) → (withdrawn 1 (withdrawn 2 (three_joined key a b c))).round ≡ round_of key 1 1 0 1 1
-  pub round_join_2_1 : (key a b c : ℕ) → (join_call (withdrawn 1 (withdrawn 2 (three_joined key a b c)))).told ≡ says 1
-  pub round_admit_5 : (key : ℕ) → rounds.admit_call (state (round_of key 2 3 1 4 0) (7 ∷ 1 ∷ 5 ∷ 2 ∷ []) []) ≡ rounds.after (says (some (5, 2))) (state (round_of key 2 6 1 3 0) (7 ∷ 1 ∷ 5 ∷ 2 ∷ []) [])
+  pub round_join_2_1 : (key a b c : ℕ) → (join_call (withdrawn 1 (withdrawn 2 (three_joined key a b c)))).answer ≡ result 1
+  pub round_admit_5 : (key : ℕ) → rounds.admit_call (state (round_of key 2 3 1 4 0) (7 ∷ 1 ∷ 5 ∷ 2 ∷ []) []) ≡ rounds.after (result (some (5, 2))) (state (round_of key 2 6 1 3 0) (7 ∷ 1 ∷ 5 ∷ 2 ∷ []) [])

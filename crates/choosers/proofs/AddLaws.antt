@@ -12,10 +12,10 @@ use borrow.Author.Tests.{lt-ltb, le-ltb}
 use lib.Dec.{eqb}
 use lib.ListN.{length, get_or, set, length-set}
 use lib.Seq.{get_or-set_same, get_or-set_other}
-use Rattle.lists.specs.Told.{says}
+use Rattle.answers.specs.Answers.{result}
 use Rattle.lists.specs.Lists.{has, without, first_from}
 use Rattle.lists.proofs.Tests.{by_test, by_below, by_same}
-use Rattle.lists.proofs.Tolds.{not_said, said_same}
+use Rattle.answers.proofs.AnswerLaws.{not_said, said_same}
 use Rattle.lists.proofs.Having.{has_head, has_tail}
 use Rattle.lists.proofs.Searching.{first_same}
 use Rattle.choosers.specs.declared.node_map.ConsistentNodeMap.{ConsistentNodeMap}
@@ -51,13 +51,13 @@ module _ (m : ConsistentNodeMap) (t : List ℕ) where
 
   module _ (ok : fitting m t ≡ true) where
     -- It says that slot where there is room for it, and is refused else.
-    pub add_room : vacant t m.total < min (length t) slot_limit → (add_call m t).told ≡ says (vacant t m.total)
+    pub add_room : vacant t m.total < min (length t) slot_limit → (add_call m t).answer ≡ result (vacant t m.total)
     add_room r =
         by_below (vacant t m.total) m.total
-        (λ h. ap (λ (a : After ℕ). a.told) (add_vacant m t ok (vacant t m.total) refl h))
+        (λ h. ap (λ (a : After ℕ). a.answer) (add_vacant m t ok (vacant t m.total) refl h))
         (λ l. by_vacant t m.total
         (λ h z. absurd (omega arith))
-        (λ v. ap (λ (a : After ℕ). a.told) (add_new m t ok (vacant t m.total) refl l (λ e. omega arith) (λ e. omega arith)) ∙ ap says (sym v)))
+        (λ v. ap (λ (a : After ℕ). a.answer) (add_new m t ok (vacant t m.total) refl l (λ e. omega arith) (λ e. omega arith)) ∙ ap result (sym v)))
 
     pub add_no_room : min (length t) slot_limit ≤ vacant t m.total → add_call m t ≡ refused 9 m t
     add_no_room r =
@@ -74,8 +74,8 @@ module _ (m : ConsistentNodeMap) (t : List ℕ) where
   add_by : (P : After ℕ → Type 0)
       → (fitting m t ≡ false → P (refused 12 m t))
       → (fitting m t ≡ true → P (refused 9 m t))
-      → ((x : ℕ) → Parts m t → x ≡ vacant t m.total → x < m.total → get_or t x 0 ≡ 0 → P (after (says x) m (set t x 1)))
-      → (Parts m t → m.total ≡ vacant t m.total → m.total < length t → m.total < slot_limit → P (after (says m.total) (map_of (m.total + 1)) (set t m.total 1)))
+      → ((x : ℕ) → Parts m t → x ≡ vacant t m.total → x < m.total → get_or t x 0 ≡ 0 → P (after (result x) m (set t x 1)))
+      → (Parts m t → m.total ≡ vacant t m.total → m.total < length t → m.total < slot_limit → P (after (result m.total) (map_of (m.total + 1)) (set t m.total 1)))
       → P (add_call m t)
   add_by P unfit full low new =
       by_test (fitting m t)
@@ -97,7 +97,7 @@ module _ (m : ConsistentNodeMap) (t : List ℕ) where
     rest : (y : ℕ) → y ≢ x → active a.table a.map.total y ≡ active t m.total y
     count : a.map.total ≡ max m.total (x + 1)
 
-  low_adds : (x : ℕ) → Parts m t → x ≡ vacant t m.total → x < m.total → get_or t x 0 ≡ 0 → Adds x (after (says x) m (set t x 1))
+  low_adds : (x : ℕ) → Parts m t → x ≡ vacant t m.total → x < m.total → get_or t x 0 ≡ 0 → Adds x (after (result x) m (set t x 1))
   low_adds x p v h z = record {
     lowest = v;
     was = active_no t m.total x (omega arith);
@@ -106,7 +106,7 @@ module _ (m : ConsistentNodeMap) (t : List ℕ) where
     count = omega arith;
   }
 
-  new_adds : m.total ≡ vacant t m.total → m.total < length t → Adds m.total (after (says m.total) (map_of (m.total + 1)) (set t m.total 1))
+  new_adds : m.total ≡ vacant t m.total → m.total < length t → Adds m.total (after (result m.total) (map_of (m.total + 1)) (set t m.total 1))
   new_adds v h = record {
     lowest = v;
     was = active_over t m.total m.total (omega arith);
@@ -119,23 +119,23 @@ module _ (m : ConsistentNodeMap) (t : List ℕ) where
     count = omega arith;
   }
 
-  adds : (x : ℕ) → (add_call m t).told ≡ says x → Adds x (add_call m t)
+  adds : (x : ℕ) → (add_call m t).answer ≡ result x → Adds x (add_call m t)
   adds x =
-      add_by (λ a. a.told ≡ says x → Adds x a)
+      add_by (λ a. a.answer ≡ result x → Adds x a)
       (λ no e. not_said 12 x e)
       (λ ok e. not_said 9 x e)
-      (λ y p v h z e. subst (λ (n : ℕ). Adds n (after (says y) m (set t y 1))) (said_same y x e) (low_adds y p v h z))
-      (λ p v h l e. subst (λ (n : ℕ). Adds n (after (says m.total) (map_of (m.total + 1)) (set t m.total 1))) (said_same m.total x e) (new_adds v h))
+      (λ y p v h z e. subst (λ (n : ℕ). Adds n (after (result y) m (set t y 1))) (said_same y x e) (low_adds y p v h z))
+      (λ p v h l e. subst (λ (n : ℕ). Adds n (after (result m.total) (map_of (m.total + 1)) (set t m.total 1))) (said_same m.total x e) (new_adds v h))
 
   -- Of an add that says x: x is the slot that `vacant` names, and was not active,
-  pub add_vacant_said : (x : ℕ) → (add_call m t).told ≡ says x → x ≡ vacant t m.total
+  pub add_vacant_said : (x : ℕ) → (add_call m t).answer ≡ result x → x ≡ vacant t m.total
   add_vacant_said x e = (adds x e).lowest
 
-  pub add_fresh : (x : ℕ) → (add_call m t).told ≡ says x → has x (actives t m.total) ≡ false
+  pub add_fresh : (x : ℕ) → (add_call m t).answer ≡ result x → has x (actives t m.total) ≡ false
   add_fresh x e = has_actives t m.total x ∙ (adds x e).was
 
   -- the active slots after it are those before and x,
-  pub add_actives : (x : ℕ) → (add_call m t).told ≡ says x → (y : ℕ) → has y (actives (add_call m t).table (add_call m t).map.total) ≡ has y (x ∷ actives t m.total)
+  pub add_actives : (x : ℕ) → (add_call m t).answer ≡ result x → (y : ℕ) → has y (actives (add_call m t).table (add_call m t).map.total) ≡ has y (x ∷ actives t m.total)
   add_actives x e y =
       has_actives (add_call m t).table (add_call m t).map.total y
       ∙ by_same y x
@@ -143,24 +143,24 @@ module _ (m : ConsistentNodeMap) (t : List ℕ) where
       (λ d. (adds x e).rest y d ∙ sym (has_tail y x (actives t m.total) d ∙ has_actives t m.total y))
 
   -- those before are those after it without x,
-  add_out : (x : ℕ) → (add_call m t).told ≡ says x → Out (add_call m t).table (add_call m t).map.total x t m.total
+  add_out : (x : ℕ) → (add_call m t).answer ≡ result x → Out (add_call m t).table (add_call m t).map.total x t m.total
   add_out x e = record { less = omega (arith, (adds x e).count); gone = (adds x e).was; rest = λ y d. sym ((adds x e).rest y d) }
 
-  pub add_before : (x : ℕ) → (add_call m t).told ≡ says x → actives t m.total ≡ without x (actives (add_call m t).table (add_call m t).map.total)
+  pub add_before : (x : ℕ) → (add_call m t).answer ≡ result x → actives t m.total ≡ without x (actives (add_call m t).table (add_call m t).map.total)
   add_before x e = out_actives (add_out x e)
 
-  pub add_length : (x : ℕ) → (add_call m t).told ≡ says x → length (actives (add_call m t).table (add_call m t).map.total) ≡ suc (length (actives t m.total))
+  pub add_length : (x : ℕ) → (add_call m t).answer ≡ result x → length (actives (add_call m t).table (add_call m t).map.total) ≡ suc (length (actives t m.total))
   add_length x e = sym (out_length (add_out x e) (adds x e).is)
 
   -- a state's slot is the one before or x,
-  pub add_slot : (x : ℕ) → (add_call m t).told ≡ says x → (s : ℕ)
+  pub add_slot : (x : ℕ) → (add_call m t).answer ≡ result x → (s : ℕ)
       → (slot_among s (actives (add_call m t).table (add_call m t).map.total) ≡ slot_among s (actives t m.total)) ⊎ (slot_among s (actives (add_call m t).table (add_call m t).map.total) ≡ some x)
   add_slot x e s =
       rw (slot_same s (actives (add_call m t).table (add_call m t).map.total) (x ∷ actives t m.total) (add_actives x e))
       (slot_put s (actives t m.total) x)
 
   -- and the count is the old one, or one above x where that is more.
-  pub add_count : (x : ℕ) → (add_call m t).told ≡ says x → (add_call m t).map.total ≡ max m.total (x + 1)
+  pub add_count : (x : ℕ) → (add_call m t).answer ≡ result x → (add_call m t).map.total ≡ max m.total (x + 1)
   add_count x e = (adds x e).count
 
   -- A fitting map fits after an add, refused or not.

@@ -11,10 +11,10 @@ use borrow.Author.Tests.{lt-ltb, le-ltb, le-leb, lt-leb, eq-eqb, ne_eqb, ltb-fal
 use lib.Dec.{ltb, eqb}
 use lib.ListN.{length, get_or, drop, length-append, length-drop}
 use lib.Seq.{length-take-le}
-use Rattle.lists.specs.Told.{Told, refusal, says, map_told}
+use Rattle.answers.specs.Answers.{Answer, refusal, result, map_answer}
 use Rattle.lists.specs.Lists.{last, written}
 use Rattle.lists.proofs.Tests.{by_cond, by_below}
-use Rattle.lists.proofs.Tolds.{not_said, said_same, refusal_same}
+use Rattle.answers.proofs.AnswerLaws.{not_said, said_same, refusal_same}
 use Rattle.lists.proofs.Ascending.{length_snoc, last_take}
 use Rattle.lists.proofs.Writing.{written_at}
 use Rattle.choosers.specs.declared.choose_k.ConsistentChooseKHasher.{ConsistentChooseKHasher}
@@ -48,20 +48,20 @@ grow_index s xs n =
 -- ---- the tests that all calls on a record have, by how two tests go
 
 refused_by : (c : ConsistentChooseKHasher) (l : List ℕ) {A : Type 0} (a : After A) (w : ℕ) (fit high : Bool)
-    → ◌≡◌ {A = Told (Unit {0})} (refusal w) (cond fit (cond high (refusal 1) (says tt)) (refusal 12))
+    → ◌≡◌ {A = Answer (Unit {0})} (refusal w) (cond fit (cond high (refusal 1) (result tt)) (refusal 12))
     → refused w c l ≡ cond fit (cond high (refused 1 c l) a) (refused 12 c l)
 refused_by c l a w true true e = ap (λ (w : ℕ). refused w c l) (refusal_same w 1 e)
 refused_by c l a w true false e = not_said w tt e
 refused_by c l a w false high e = ap (λ (w : ℕ). refused w c l) (refusal_same w 12 e)
 
-passed_by : (fit high : Bool) → ◌≡◌ {A = Told (Unit {0})} (says tt) (cond fit (cond high (refusal 1) (says tt)) (refusal 12)) → (fit ≡ true) × (high ≡ false)
+passed_by : (fit high : Bool) → ◌≡◌ {A = Answer (Unit {0})} (result tt) (cond fit (cond high (refusal 1) (result tt)) (refusal 12)) → (fit ≡ true) × (high ≡ false)
 passed_by true true e = not_said 1 tt (sym e)
 passed_by true false e = (refl, refl)
 passed_by false high e = not_said 12 tt (sym e)
 
 -- what `next` says where one sample more came in: the number at its index
 abbrev pub drawn : After ℕ → After (Option ℕ)
-drawn a = after (map_told (λ i. some (get_or a.list i 0)) a.told) a.chooser a.list
+drawn a = after (map_answer (λ i. some (get_or a.list i 0)) a.answer) a.chooser a.list
 
 module _ (c : ConsistentChooseKHasher) (l : List ℕ) where
   -- ---- the tests that all have: 12, then 1
@@ -74,7 +74,7 @@ module _ (c : ConsistentChooseKHasher) (l : List ℕ) where
   unfolding tests
   tests_above e h = rw (e, lt-ltb (2 ^ 62) c.n h)
 
-  pub tests_pass : fitting c l ≡ true → c.n ≤ 2 ^ 62 → says tt ≡ tests c l
+  pub tests_pass : fitting c l ≡ true → c.n ≤ 2 ^ 62 → result tt ≡ tests c l
   unfolding tests
   tests_pass e h = rw (e, le-ltb (2 ^ 62) c.n h)
 
@@ -84,7 +84,7 @@ module _ (c : ConsistentChooseKHasher) (l : List ℕ) where
   tests_refuse a w e = refused_by c l a w (fitting c l) (ltb (2 ^ 62) c.n) e
 
   -- what they let pass
-  pub passed : says tt ≡ tests c l → (fitting c l ≡ true) × (c.n ≤ 2 ^ 62)
+  pub passed : result tt ≡ tests c l → (fitting c l ≡ true) × (c.n ≤ 2 ^ 62)
   unfolding tests
   passed e =
       let p = passed_by (fitting c l) (ltb (2 ^ 62) c.n) e in
@@ -107,7 +107,7 @@ module _ (c : ConsistentChooseKHasher) (l : List ℕ) where
     unfolding grow_call
     grow_full e = rw (tested_good _, eq-eqb c.k c.n e)
 
-    pub next_full : c.k ≡ c.n → after (says none) c l ≡ next_call c l
+    pub next_full : c.k ≡ c.n → after (result none) c l ≡ next_call c l
     unfolding next_call
     next_full e = rw (tested_good _, eq-eqb c.k c.n e)
 
@@ -133,11 +133,11 @@ module _ (c : ConsistentChooseKHasher) (l : List ℕ) where
         pub index_within : i ≤ c.k
         index_within = omega (arith, index_is, grow_index c.state (samples_of c l) c.n, long)
 
-        pub grown_done : after (says i) (chooser_of c.state c.n (c.k + 1)) now ≡ grown c l
+        pub grown_done : after (result i) (chooser_of c.state c.n (c.k + 1)) now ≡ grown c l
         unfolding grown grown_by
         grown_done = rw (le-ltb (length l) (c.k + 1) room, now_is, index_is)
 
-        pub next_done : after (says (some (get_or now i 0))) (chooser_of c.state c.n (c.k + 1)) now ≡ next_call c l
+        pub next_done : after (result (some (get_or now i 0))) (chooser_of c.state c.n (c.k + 1)) now ≡ next_call c l
         unfolding next_call grown_by
         next_done =
             let x : get_or now i 0 ≡ get_or step.samples step.index 0
@@ -170,14 +170,14 @@ module _ (c : ConsistentChooseKHasher) (l : List ℕ) where
           (λ h. sym (next_done more h _ _ refl) ∙ ap drawn (grown_done more h _ _ refl))
 
       -- the index that is answered lies in the list
-      pub grown_index : (i : ℕ) (c' : ConsistentChooseKHasher) (l' : List ℕ) → after (says i) c' l' ≡ grown c l → i < length l'
+      pub grown_index : (i : ℕ) (c' : ConsistentChooseKHasher) (l' : List ℕ) → after (result i) c' l' ≡ grown c l → i < length l'
       grown_index i c' l' e =
           by_below (length l) (c.k + 1)
-          (λ h. let z : refusal 4 ≡ says i = ap (λ (a : After ℕ). a.told) (grown_short (omega arith) ∙ sym e) in not_said 4 i z)
+          (λ h. let z : refusal 4 ≡ result i = ap (λ (a : After ℕ). a.answer) (grown_short (omega arith) ∙ sym e) in not_said 4 i z)
           (λ h.
           let now = grow_in c.state c.k l c.n in
-          let d : after (says now.index) (chooser_of c.state c.n (c.k + 1)) now.samples ≡ after (says i) c' l' = grown_done more h _ _ refl ∙ sym e in
-          let at : now.index ≡ i = said_same now.index i (ap (λ (a : After ℕ). a.told) d) in
+          let d : after (result now.index) (chooser_of c.state c.n (c.k + 1)) now.samples ≡ after (result i) c' l' = grown_done more h _ _ refl ∙ sym e in
+          let at : now.index ≡ i = said_same now.index i (ap (λ (a : After ℕ). a.answer) d) in
           let long : length now.samples ≡ length l' = ap (λ (a : After ℕ). length a.list) d in
           omega (arith, at, long, grown_length h, index_within more h now.samples now.index refl))
 
@@ -207,7 +207,7 @@ module _ (c : ConsistentChooseKHasher) (l : List ℕ) where
             )
 
         pub shrink_done : (now : List ℕ) (i : ℕ) → c.k ≤ get_or l (c.k - 1) 0 → moved now i ≡ lower_at c.state c.k l (get_or l (c.k - 1) 0)
-            → after (says i) (chooser_of c.state (get_or l (c.k - 1) 0) c.k) now ≡ shrink_call c l
+            → after (result i) (chooser_of c.state (get_or l (c.k - 1) 0) c.k) now ≡ shrink_call c l
         unfolding shrink_call shrink written
         shrink_done now i h e =
             let m : Moved = lower c.state (samples_of c l) (last (samples_of c l)) in

@@ -10,11 +10,11 @@ use native.Mathlib.Omega.{arith}
 use native.Mathlib.Numerals.{add-one}
 use lib.ListN.{length, get_or, drop, drop_of_length-le}
 use lib.Seq.{drop-cons}
-use Rattle.lists.specs.Told.{says}
+use Rattle.answers.specs.Answers.{result}
 use Rattle.lists.specs.Lists.{lacked}
-use Rattle.lists.specs.Steps.{answers, one_by_one}
+use Rattle.answers.specs.Steps.{answers, one_by_one}
 use Rattle.lists.proofs.Tests.{by_same}
-use Rattle.lists.proofs.Turns.{Turn, ended, gave, all_answers}
+use Rattle.answers.proofs.Turns.{Turn, ended, gave, all_answers}
 use Rattle.lists.proofs.Listing.{listing_at}
 use Rattle.choosers.specs.declared.choose_k.ConsistentChooseKHasher.{ConsistentChooseKHasher}
 use Rattle.choosers.specs.Choosers.{S, Q}
@@ -53,10 +53,10 @@ module _ (s n : ℕ) (small : n ≤ 2 ^ 62) where
 
     turn_full : k ≡ n → Turn next_step (rest s n) (Under s n) (record { chooser = chooser_of s n k; list = l })
     turn_full e =
-        let stop : after (says none) (chooser_of s n k) l ≡ next_call (chooser_of s n k) l = next_full (chooser_of s n k) l ok small e in
+        let stop : after (result none) (chooser_of s n k) l ≡ next_call (chooser_of s n k) l = next_full (chooser_of s n k) l ok small e in
         let nothing : drop k (Q s n) ≡ [] = drop_of_length-le (Q s n) {i = k} (omega (arith, length_Q s n)) in
         ended
-        (ap (λ (a : After (Option ℕ)). a.told) (sym stop))
+        (ap (λ (a : After (Option ℕ)). a.answer) (sym stop))
         (subst (λ (a : After (Option ℕ)). Under s n (record { chooser = a.chooser; list = a.list })) stop (record { few = few; long = long; is = refl; chooses = q }))
         (ap (λ (a : After (Option ℕ)). drop a.chooser.k (Q s n)) (sym stop) ∙ nothing)
         nothing
@@ -66,19 +66,19 @@ module _ (s n : ℕ) (small : n ≤ 2 ^ 62) where
         let now : List ℕ = (grow_in s k l n).samples in
         let i : ℕ = (grow_in s k l n).index in
         let x : ℕ = get_or now i 0 in
-        let go : after (says (some x)) (chooser_of s n (k + 1)) now ≡ next_call (chooser_of s n k) l
+        let go : after (result (some x)) (chooser_of s n (k + 1)) now ≡ next_call (chooser_of s n k) l
         = next_done (chooser_of s n k) l ok small d (omega (arith, d)) now i refl in
         let c = next_consistent (chooser_of s n k) l in
         let chosen : Chooses (chooser_of s n (k + 1)) now
         = subst (λ (a : After (Option ℕ)). Chooses a.chooser a.list) (sym go) (c.chooses q) in
         let is-next : x ≡ get_or (Q s n) k 0
-        = (subst (λ (a : After (Option ℕ)). a.told ≡ says (some x) → x ≡ lacked (samples_of a.chooser a.list) (samples_of (chooser_of s n k) l)) (sym go) (c.number q x)) refl
+        = (subst (λ (a : After (Option ℕ)). a.answer ≡ result (some x) → x ≡ lacked (samples_of a.chooser a.list) (samples_of (chooser_of s n k) l)) (sym go) (c.number q x)) refl
         ∙ ap (λ (xs : List ℕ). lacked xs (samples_of (chooser_of s n k) l)) chosen
         ∙ ap (λ (xs : List ℕ). lacked (S s (k + 1) n) xs) q
         ∙ ap (λ (m : ℕ). lacked (S s m n) (S s k n)) (add-one k)
         ∙ sym (Q_lacked s n k (omega (arith, d))) in
         gave x
-        (ap (λ (a : After (Option ℕ)). a.told) (sym go))
+        (ap (λ (a : After (Option ℕ)). a.answer) (sym go))
         (subst (λ (a : After (Option ℕ)). Under s n (record { chooser = a.chooser; list = a.list })) go
         (record { few = omega (arith, d); long = omega (arith, grown_length (chooser_of s n k) l ok small (omega (arith, d))); is = refl; chooses = chosen }))
         (drop-cons (Q s n) k 0 (omega (arith, d, length_Q s n))

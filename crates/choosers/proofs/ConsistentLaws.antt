@@ -13,7 +13,7 @@ use borrow.Author.Tests.{eqb-false}
 use lib.Dec.{ltb, leb, eqb}
 use lib.ListN.{length, get_or, take}
 use lib.Seq.{length-take-le}
-use Rattle.lists.specs.Told.{says}
+use Rattle.answers.specs.Answers.{result}
 use Rattle.lists.specs.Lists.{last, lacked, written}
 use Rattle.lists.proofs.Tests.{by_cond, by_below, same_no}
 use Rattle.lists.proofs.Members.{occurrences_append}
@@ -47,7 +47,7 @@ module _ (c : ConsistentChooseKHasher) (l : List ℕ) where
     number = λ h x e. let z : ◌≡◌ {A = ℕ} 0 1 = cc in absurd (omega arith);
   }
 
-  none_keeps : ConsistentNext c l (after (says none) c l)
+  none_keeps : ConsistentNext c l (after (result none) c l)
   none_keeps = record {
     chooses = λ h. h;
     number = λ h x e. let z : ◌≡◌ {A = ℕ} 0 1 = cc in absurd (omega arith);
@@ -173,7 +173,7 @@ module _ (c : ConsistentChooseKHasher) (l : List ℕ) where
         ∙ rw (same_no b (new c.state j b) (λ q. omega (arith, q, new_lt c.state j b high))) (omega (arith, new_fresh c.state j b high))))
 
   shrunk_keeps : Parts c l → (k : ℕ) → c.k ≡ k → k ≢ 0 → counts_from 0 (samples_of c l) ≡ false → (m : Moved) → m ≡ shrink c.state (samples_of c l)
-      → Consistent c l (after (says m.index) (chooser_of c.state (last (samples_of c l)) c.k) (written m.samples l))
+      → Consistent c l (after (result m.index) (chooser_of c.state (last (samples_of c l)) c.k) (written m.samples l))
   shrunk_keeps p zero q d f m e = absurd (d refl)
   shrunk_keeps p (suc j) q d f m e = record {
     chooses = λ h. rw e (shrunk_taken p j q f h ∙ ap (λ (k : ℕ). S c.state k (b p j q f h)) (sym q) ∙ ap (S c.state c.k) (sym (last_is p j q f h)));

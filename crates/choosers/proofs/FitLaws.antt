@@ -10,7 +10,7 @@ use borrow.Author.Tests.{ltb-false, eqb-false}
 use lib.Dec.{ltb, leb, eqb}
 use lib.ListN.{length}
 use lib.Seq.{length-take-le}
-use Rattle.lists.specs.Told.{says}
+use Rattle.answers.specs.Answers.{result}
 use Rattle.lists.specs.Lists.{last, written, Ascending}
 use Rattle.lists.proofs.Tests.{by_cond, by_below}
 use Rattle.lists.proofs.Writing.{written_take, length_written}
@@ -56,7 +56,7 @@ module _ (c : ConsistentChooseKHasher) (l : List ℕ) (ok : fitting c l ≡ true
       tested_keeps c l Fits _ (λ _. ok) (λ p.
       by_cond Fits (eqb c.k c.n) _ _ (λ _. ok) (λ d. grown_fits p (eqb-false c.k c.n d) _))
 
-  shrunk_fits : Parts c l → c.k ≢ 0 → counts_from 0 (samples_of c l) ≡ false → Fits (after (says (shrink c.state (samples_of c l)).index) (chooser_of c.state (last (samples_of c l)) c.k) (written (shrink c.state (samples_of c l)).samples l))
+  shrunk_fits : Parts c l → c.k ≢ 0 → counts_from 0 (samples_of c l) ≡ false → Fits (after (result (shrink c.state (samples_of c l)).index) (chooser_of c.state (last (samples_of c l)) c.k) (written (shrink c.state (samples_of c l)).samples l))
   shrunk_fits p more not_first =
       let long : length (samples_of c l) ≡ c.k = length-take-le c.k l p.within in
       let high : length (samples_of c l) ≤ last (samples_of c l)

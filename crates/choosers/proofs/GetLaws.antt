@@ -3,7 +3,7 @@
 use Rattle.std.specs.Prelude.{Option, Some, None, Result, ok_or}
 use Rattle.answers.specs.declared.Refusal.{Refusal}
 use Rattle.answers.specs.declared.Refusal.TheVariants.{NoneActive}
-use Rattle.answers.specs.Refusals.{told}
+use Rattle.answers.specs.Refusals.{answer_of}
 use mathlib.Core.Path.{◌≡◌, refl, sym, ap, subst, ◌∙◌}
 use mathlib.Core.Logic.{◌≢◌}
 use mathlib.Core.Bool.{true, false, not, true≢false}
@@ -15,7 +15,7 @@ use borrow.Author.Tests.{lt-ltb, le-ltb, ne_eqb}
 use lib.Dec.{eqb}
 use lib.ListN.{length}
 use lib.Seq.{take_all}
-use Rattle.lists.specs.Told.{refusal}
+use Rattle.answers.specs.Answers.{refusal}
 use Rattle.lists.specs.Lists.{find}
 use Rattle.lists.proofs.Having.{has_head}
 use Rattle.choosers.specs.declared.node_map.ConsistentNodeMap.{ConsistentNodeMap}
@@ -37,7 +37,7 @@ among_some s [] e = absurd (true≢false e)
 among_some s (x ∷ A) e = slot_some s (x ∷ A) x (has_head x A)
 
 -- the code's answer from what a lookup finds
-looked_or_none : (o : Option ℕ) → told (ok_or o NoneActive) ≡ or_none (optional o)
+looked_or_none : (o : Option ℕ) → answer_of (ok_or o NoneActive) ≡ or_none (optional o)
 looked_or_none None = refl
 looked_or_none (Some x) = refl
 
@@ -67,7 +67,7 @@ module _ (m : ConsistentNodeMap) (t : List ℕ) (s places : ℕ) where
       get_none e = is_holder ∙ ap or_none (holder_slot s t m.total ∙ among_none s (actives t m.total) e)
 
       -- what is looked up is what get says
-      pub get_looked : (o : Option ℕ) → optional o ≡ look_up m.total t s places → told (ok_or o NoneActive) ≡ get_call m t s places
+      pub get_looked : (o : Option ℕ) → optional o ≡ look_up m.total t s places → answer_of (ok_or o NoneActive) ≡ get_call m t s places
       get_looked o e = looked_or_none o ∙ ap or_none (e ∙ look_all) ∙ sym is_holder
 
       get_some : true ≡ not (eqb (length (actives t m.total)) 0) → look_up m.total t s places ≢ none

@@ -102,11 +102,11 @@ module _ (s : ℕ) (t : List ℕ) (c m : ℕ) where
     next_is : get_or (take m (Q s c)) k 0 ≡ x
     next_is = get_or-take m (Q s c) k 0 e ∙ sym is
 
-    told : (b : Bool) → eqb (get_or t x 0) 1 ≡ b → active t c (get_or (take m (Q s c)) k 0) ≡ b
-    told b f = ap (active t c) next_is ∙ active_is t c x b (omega (arith, Q_below s c k h)) f
+    answer_of : (b : Bool) → eqb (get_or t x 0) 1 ≡ b → active t c (get_or (take m (Q s c)) k 0) ≡ b
+    answer_of b f = ap (active t c) next_is ∙ active_is t c x b (omega (arith, Q_below s c k h)) f
 
     pub look_next : eqb (get_or t x 0) 1 ≡ false → Ahead s t c m k → Ahead s t c m (k + 1)
-    look_next f a = sym (find_next (active t c) (take m (Q s c)) k within (told false f)) ∙ a
+    look_next f a = sym (find_next (active t c) (take m (Q s c)) k within (answer_of false f)) ∙ a
 
     pub look_hit : eqb (get_or t x 0) 1 ≡ true → Ahead s t c m k → some x ≡ look_up c t s m
-    look_hit f a = ap some (sym next_is) ∙ sym (find_hit (active t c) (take m (Q s c)) k within (told true f)) ∙ a
+    look_hit f a = ap some (sym next_is) ∙ sym (find_hit (active t c) (take m (Q s c)) k within (answer_of true f)) ∙ a

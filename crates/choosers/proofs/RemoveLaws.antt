@@ -11,9 +11,9 @@ use borrow.Author.Tests.{lt-ltb, le-ltb, eq-eqb, ne_eqb}
 use lib.Dec.{eqb}
 use lib.ListN.{length, get_or, set, length-set}
 use lib.Seq.{get_or-set_same, get_or-set_other}
-use Rattle.lists.specs.Told.{says}
+use Rattle.answers.specs.Answers.{result}
 use Rattle.lists.specs.Lists.{has, without}
-use Rattle.lists.proofs.Tolds.{not_said}
+use Rattle.answers.proofs.AnswerLaws.{not_said}
 use Rattle.lists.proofs.Tests.{by_test, by_below, by_same}
 use Rattle.choosers.specs.declared.node_map.ConsistentNodeMap.{ConsistentNodeMap}
 use Rattle.choosers.specs.Slots.{active, actives, slot_among}
@@ -28,8 +28,8 @@ module _ (m : ConsistentNodeMap) (t : List ℕ) (x : ℕ) where
   remove_by : (P : After (Unit {0}) → Type 0)
       → (fitting m t ≡ false → P (refused 12 m t))
       → (fitting m t ≡ true → P (refused 10 m t))
-      → (Parts m t → active t m.total x ≡ true → x + 1 ≡ m.total → P (after (says tt) (map_of x) t))
-      → (Parts m t → active t m.total x ≡ true → x + 1 ≢ m.total → P (after (says tt) m (set t x 0)))
+      → (Parts m t → active t m.total x ≡ true → x + 1 ≡ m.total → P (after (result tt) (map_of x) t))
+      → (Parts m t → active t m.total x ≡ true → x + 1 ≢ m.total → P (after (result tt) m (set t x 0)))
       → P (remove_call m t x)
   remove_by P unfit off end mid =
       by_test (fitting m t)
@@ -62,9 +62,9 @@ module _ (m : ConsistentNodeMap) (t : List ℕ) (x : ℕ) where
     out : Out t m.total x a.table a.map.total
     count : a.map.total ≡ cond (eqb (x + 1) m.total) x m.total
 
-  removes : (remove_call m t x).told ≡ says tt → Removes (remove_call m t x)
+  removes : (remove_call m t x).answer ≡ result tt → Removes (remove_call m t x)
   removes =
-      remove_by (λ a. a.told ≡ says tt → Removes a)
+      remove_by (λ a. a.answer ≡ result tt → Removes a)
       (λ no e. not_said 12 tt e)
       (λ ok e. not_said 10 tt e)
       (λ p y l e. record { was = y; out = end_out l; count = rw (eq-eqb (x + 1) m.total l) })
@@ -75,30 +75,30 @@ module _ (m : ConsistentNodeMap) (t : List ℕ) (x : ℕ) where
       })
 
   -- A remove of an active slot is accepted.
-  pub remove_active : fitting m t ≡ true → active t m.total x ≡ true → (remove_call m t x).told ≡ says tt
+  pub remove_active : fitting m t ≡ true → active t m.total x ≡ true → (remove_call m t x).answer ≡ result tt
   remove_active ok y =
       by_same (x + 1) m.total
-      (λ e. ap (λ (a : After (Unit {0})). a.told) (remove_last m t x ok y e))
-      (λ d. ap (λ (a : After (Unit {0})). a.told) (remove_other m t x ok y d))
+      (λ e. ap (λ (a : After (Unit {0})). a.answer) (remove_last m t x ok y e))
+      (λ d. ap (λ (a : After (Unit {0})). a.answer) (remove_other m t x ok y d))
 
   -- Of an accepted remove of x: x was active,
-  pub remove_was : (remove_call m t x).told ≡ says tt → has x (actives t m.total) ≡ true
+  pub remove_was : (remove_call m t x).answer ≡ result tt → has x (actives t m.total) ≡ true
   remove_was e = has_actives t m.total x ∙ (removes e).was
 
   -- the active slots after it are those before without x,
-  pub remove_actives : (remove_call m t x).told ≡ says tt → actives (remove_call m t x).table (remove_call m t x).map.total ≡ without x (actives t m.total)
+  pub remove_actives : (remove_call m t x).answer ≡ result tt → actives (remove_call m t x).table (remove_call m t x).map.total ≡ without x (actives t m.total)
   remove_actives e = out_actives (removes e).out
 
-  pub remove_length : (remove_call m t x).told ≡ says tt → suc (length (actives (remove_call m t x).table (remove_call m t x).map.total)) ≡ length (actives t m.total)
+  pub remove_length : (remove_call m t x).answer ≡ result tt → suc (length (actives (remove_call m t x).table (remove_call m t x).map.total)) ≡ length (actives t m.total)
   remove_length e = out_length (removes e).out (removes e).was
 
   -- a state's slot is the one before where that was not x,
-  pub remove_slot : (remove_call m t x).told ≡ says tt → (s : ℕ) → slot_among s (actives t m.total) ≢ some x
+  pub remove_slot : (remove_call m t x).answer ≡ result tt → (s : ℕ) → slot_among s (actives t m.total) ≢ some x
       → slot_among s (actives (remove_call m t x).table (remove_call m t x).map.total) ≡ slot_among s (actives t m.total)
   remove_slot e s d = ap (slot_among s) (remove_actives e) ∙ slot_out s (actives t m.total) x d
 
   -- and the count is one less where x was the last slot.
-  pub remove_count : (remove_call m t x).told ≡ says tt → (remove_call m t x).map.total ≡ cond (eqb (x + 1) m.total) x m.total
+  pub remove_count : (remove_call m t x).answer ≡ result tt → (remove_call m t x).map.total ≡ cond (eqb (x + 1) m.total) x m.total
   remove_count e = (removes e).count
 
   -- A fitting map fits after a remove, refused or not.

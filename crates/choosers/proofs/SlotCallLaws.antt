@@ -10,7 +10,7 @@ use borrow.Author.Tests.{lt-ltb, le-ltb, le-leb, lt-leb, eq-eqb, ne_eqb, leb-tru
 use lib.Dec.{leb}
 use lib.ListN.{length, get_or, take, set}
 use lib.Seq.{get_or-set_same, get_or-set_other}
-use Rattle.lists.specs.Told.{refusal, says}
+use Rattle.answers.specs.Answers.{refusal, result}
 use Rattle.lists.specs.Lists.{every}
 use Rattle.lists.proofs.Tests.{by_same}
 use Rattle.lists.proofs.Keeping.{both}
@@ -84,7 +84,7 @@ module _ (m : ConsistentNodeMap) (t : List ℕ) where
 
   -- x: the lowest deleted slot, else the count
   module _ (ok : fitting m t ≡ true) (x : ℕ) (is : x ≡ vacant t m.total) where
-    pub add_vacant : x < m.total → add_call m t ≡ after (says x) m (set t x 1)
+    pub add_vacant : x < m.total → add_call m t ≡ after (result x) m (set t x 1)
     unfolding add_call
     add_vacant h = rw (ok, ← is, lt-ltb x m.total h)
 
@@ -96,7 +96,7 @@ module _ (m : ConsistentNodeMap) (t : List ℕ) where
     unfolding add_call
     add_limit h d e = rw (ok, ← is, le-ltb x m.total h, ne_eqb m.total (length t) d, eq-eqb m.total slot_limit e)
 
-    pub add_new : m.total ≤ x → m.total ≢ length t → m.total ≢ slot_limit → add_call m t ≡ after (says m.total) (map_of (m.total + 1)) (set t m.total 1)
+    pub add_new : m.total ≤ x → m.total ≢ length t → m.total ≢ slot_limit → add_call m t ≡ after (result m.total) (map_of (m.total + 1)) (set t m.total 1)
     unfolding add_call
     add_new h d e = rw (ok, ← is, le-ltb x m.total h, ne_eqb m.total (length t) d, ne_eqb m.total slot_limit e)
 
@@ -112,11 +112,11 @@ module _ (m : ConsistentNodeMap) (t : List ℕ) where
       unfolding remove_call
       remove_none e = rw (ok, e)
 
-      pub remove_last : active t m.total x ≡ true → x + 1 ≡ m.total → remove_call m t x ≡ after (says tt) (map_of x) t
+      pub remove_last : active t m.total x ≡ true → x + 1 ≡ m.total → remove_call m t x ≡ after (result tt) (map_of x) t
       unfolding remove_call
       remove_last y e = rw (ok, y, eq-eqb (x + 1) m.total e)
 
-      pub remove_other : active t m.total x ≡ true → x + 1 ≢ m.total → remove_call m t x ≡ after (says tt) m (set t x 0)
+      pub remove_other : active t m.total x ≡ true → x + 1 ≢ m.total → remove_call m t x ≡ after (result tt) m (set t x 0)
       unfolding remove_call
       remove_other y d = rw (ok, y, ne_eqb (x + 1) m.total d)
 
@@ -126,6 +126,6 @@ module _ (m : ConsistentNodeMap) (t : List ℕ) where
   unfolding queried
   query_unfit a e = rw e
 
-  pub query_fit : {A : Type 0} (a : A) → fitting m t ≡ true → queried m t a ≡ says a
+  pub query_fit : {A : Type 0} (a : A) → fitting m t ≡ true → queried m t a ≡ result a
   unfolding queried
   query_fit a e = rw e

@@ -2,7 +2,7 @@
 -- Assumes nothing.
 use Rattle.std.specs.Prelude.{◌≡◌, Bool, true, cond, ◌||◌, ◌&&◌, List, [], ◌∷◌, ℕ, zero, suc, ◌+◌, ◌^◌, ltb, leb, eqb, length, get_or, take}
 use Rattle.std.proofs.Math.Option.{Option, none, some}
-use Rattle.lists.specs.Told.{Told, refusal, says}
+use Rattle.answers.specs.Answers.{Answer, refusal, result}
 use Rattle.lists.specs.Lists.{last, lacked, written}
 use Rattle.choosers.specs.declared.choose_k.ConsistentChooseKHasher.{ConsistentChooseKHasher}
 use Rattle.choosers.specs.Choosers.{S, Moved, grow, shrink}
@@ -27,15 +27,15 @@ fitting c l = leb c.k (length l) && ascends l c.k c.n
 
 -- what a call that makes a chooser says, and the list after it. There is a record only where it says one.
 pub record AfterNew : Type 0 where
-  pub told : Told ConsistentChooseKHasher
+  pub answer : Answer ConsistentChooseKHasher
   pub list : List ℕ
 
-abbrev pub after_new : Told ConsistentChooseKHasher → List ℕ → AfterNew
-after_new t l = record { told = t; list = l }
+abbrev pub after_new : Answer ConsistentChooseKHasher → List ℕ → AfterNew
+after_new t l = record { answer = t; list = l }
 
 -- 1: "n above .. 2^62 (hashes, choosers)"
-unfoldable pub new_call : ℕ → ℕ → Told ConsistentChooseKHasher
-new_call s n = cond (ltb (2 ^ 62) n) (refusal 1) (says (chooser_of s n 0))
+unfoldable pub new_call : ℕ → ℕ → Answer ConsistentChooseKHasher
+new_call s n = cond (ltb (2 ^ 62) n) (refusal 1) (result (chooser_of s n 0))
 
 -- "3 k above n", "4 a lent list shorter than what must be written"
 unfoldable pub new_with_k_call : ℕ → ℕ → ℕ → List ℕ → AfterNew
@@ -43,18 +43,18 @@ new_with_k_call s n k l =
     cond (ltb (2 ^ 62) n) (after_new (refusal 1) l)
     (cond (ltb n k) (after_new (refusal 3) l)
     (cond (ltb (length l) k) (after_new (refusal 4) l)
-    (after_new (says (chooser_of s n k)) (written (S s k n) l))))
+    (after_new (result (chooser_of s n k)) (written (S s k n) l))))
 
 -- ---- grow_k, next and shrink_n
 
 -- what a call on a record says, and the record and the list after it
 pub record After (A : Type 0) : Type 0 where
-  pub told : Told A
+  pub answer : Answer A
   pub chooser : ConsistentChooseKHasher
   pub list : List ℕ
 
-abbrev pub after : {A : Type 0} → Told A → ConsistentChooseKHasher → List ℕ → After A
-after t c l = record { told = t; chooser = c; list = l }
+abbrev pub after : {A : Type 0} → Answer A → ConsistentChooseKHasher → List ℕ → After A
+after t c l = record { answer = t; chooser = c; list = l }
 
 -- a refusal changes nothing
 abbrev pub refused : {A : Type 0} → ℕ → ConsistentChooseKHasher → List ℕ → After A
@@ -68,7 +68,7 @@ tested c l a = cond (fitting c l) (cond (ltb (2 ^ 62) c.n) (refused 1 c l) a) (r
 unfoldable pub grown_by : {A : Type 0} → ConsistentChooseKHasher → List ℕ → Moved → A → After A
 grown_by c l m a =
     cond (ltb (length l) (c.k + 1)) (refused 4 c l)
-    (after (says a) (chooser_of c.state c.n (c.k + 1)) (written m.samples l))
+    (after (result a) (chooser_of c.state c.n (c.k + 1)) (written m.samples l))
 
 -- "6 grow with k = n"
 unfoldable pub grow_call : ConsistentChooseKHasher → List ℕ → After ℕ
@@ -80,7 +80,7 @@ grow_call c l =
 unfoldable pub next_call : ConsistentChooseKHasher → List ℕ → After (Option ℕ)
 next_call c l =
     let m = grow c.state (samples_of c l) c.n in
-    tested c l (cond (eqb c.k c.n) (after (says none) c l) (grown_by c l m (some (get_or m.samples m.index 0))))
+    tested c l (cond (eqb c.k c.n) (after (result none) c l) (grown_by c l m (some (get_or m.samples m.index 0))))
 
 -- a, a+1, a+2, ..
 unfoldable pub counts_from : ℕ → List ℕ → Bool
@@ -93,7 +93,7 @@ shrink_call c l =
     let xs = samples_of c l in
     let m = shrink c.state xs in
     tested c l (cond (eqb c.k 0 || leb c.n c.k || counts_from 0 xs) (refused 5 c l)
-    (after (says m.index) (chooser_of c.state (last xs) c.k) (written m.samples l)))
+    (after (result m.index) (chooser_of c.state (last xs) c.k) (written m.samples l)))
 
 -- ---- where the samples are S(k, n)
 
@@ -104,9 +104,9 @@ Chooses c l = samples_of c l ≡ S c.state c.k c.n
 -- answered is the place of the number that came in, which is the one that the samples before lacked
 pub record Consistent (c : ConsistentChooseKHasher) (l : List ℕ) (a : After ℕ) : Type 0 where
   pub chooses : Chooses c l → Chooses a.chooser a.list
-  pub index : Chooses c l → (i : ℕ) → a.told ≡ says i → get_or a.list i 0 ≡ lacked (samples_of a.chooser a.list) (samples_of c l)
+  pub index : Chooses c l → (i : ℕ) → a.answer ≡ result i → get_or a.list i 0 ≡ lacked (samples_of a.chooser a.list) (samples_of c l)
 
 -- the same of `next`: the number answered is the one that came in
 pub record ConsistentNext (c : ConsistentChooseKHasher) (l : List ℕ) (a : After (Option ℕ)) : Type 0 where
   pub chooses : Chooses c l → Chooses a.chooser a.list
-  pub number : Chooses c l → (x : ℕ) → a.told ≡ says (some x) → x ≡ lacked (samples_of a.chooser a.list) (samples_of c l)
+  pub number : Chooses c l → (x : ℕ) → a.answer ≡ result (some x) → x ≡ lacked (samples_of a.chooser a.list) (samples_of c l)

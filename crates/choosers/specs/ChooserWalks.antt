@@ -1,7 +1,7 @@
 -- Many calls of `next` on one chooser.
 -- Assumes nothing.
 use Rattle.std.specs.Prelude.{List, ℕ}
-use Rattle.lists.specs.Steps.{Step}
+use Rattle.answers.specs.Steps.{Step}
 use Rattle.choosers.specs.declared.choose_k.ConsistentChooseKHasher.{ConsistentChooseKHasher}
 use Rattle.choosers.specs.ChooserCalls.{chooser_of, next_call}
 
@@ -13,7 +13,7 @@ pub record Walk : Type 0 where
 abbrev pub next_step : Walk → Step Walk
 next_step w =
     let a = next_call w.chooser w.list in
-    record { said = a.told; walk = record { chooser = a.chooser; list = a.list } }
+    record { said = a.answer; walk = record { chooser = a.chooser; list = a.list } }
 
 -- a new chooser, before its first `next`
 abbrev pub walk_from : ℕ → ℕ → List ℕ → Walk

@@ -1,14 +1,14 @@
 -- What private functions of the choosers leave. No public promise cites it.
 -- Assumes nothing.
 use Rattle.std.specs.Prelude.{◌≡◌, ◌⊎◌, cond, List, ◌++◌, ℕ, suc, ◌^◌, ltb, ◌<◌, get_or, take, drop}
-use Rattle.lists.specs.Told.{Told, refusal, says}
+use Rattle.answers.specs.Answers.{Answer, refusal, result}
 use Rattle.choosers.specs.declared.choose_k.ConsistentChooseKHasher.{ConsistentChooseKHasher}
 use Rattle.choosers.specs.Choosers.{g, Moved, moved, grow}
 use Rattle.choosers.specs.ChooserCalls.{samples_of, fitting, After, grown_by}
 
 -- what the tests say that every call on a record begins with
-unfoldable pub tests : ConsistentChooseKHasher → List ℕ → Told (Unit {0})
-tests c l = cond (fitting c l) (cond (ltb (2 ^ 62) c.n) (refusal 1) (says tt)) (refusal 12)
+unfoldable pub tests : ConsistentChooseKHasher → List ℕ → Answer (Unit {0})
+tests c l = cond (fitting c l) (cond (ltb (2 ^ 62) c.n) (refusal 1) (result tt)) (refusal 12)
 
 -- one sample more, where the tests are passed and not all n are there
 unfoldable pub grown : ConsistentChooseKHasher → List ℕ → After ℕ

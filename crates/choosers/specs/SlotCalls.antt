@@ -2,7 +2,7 @@
 -- Assumes nothing.
 use Rattle.std.specs.Prelude.{◌≡◌, Bool, cond, ◌||◌, ◌&&◌, List, ℕ, ◌+◌, min, ltb, leb, eqb, length, set, take, Result, Ok, Err}
 use Rattle.std.proofs.Math.Option as maybe
-use Rattle.lists.specs.Told.{Told, refusal, says}
+use Rattle.answers.specs.Answers.{Answer, refusal, result}
 use Rattle.lists.specs.Lists.{every, find}
 use Rattle.answers.specs.declared.Refusal.{Refusal}
 use Rattle.choosers.specs.declared.node_map.ConsistentNodeMap.{ConsistentNodeMap}
@@ -27,12 +27,12 @@ fitting m t = leb m.total (length t) && leb m.total slot_limit && every at_most_
 
 -- what a call on a map says, and the map and the table after it
 pub record After (A : Type 0) : Type 0 where
-  pub told : Told A
+  pub answer : Answer A
   pub map : ConsistentNodeMap
   pub table : List ℕ
 
-abbrev pub after : {A : Type 0} → Told A → ConsistentNodeMap → List ℕ → After A
-after w m t = record { told = w; map = m; table = t }
+abbrev pub after : {A : Type 0} → Answer A → ConsistentNodeMap → List ℕ → After A
+after w m t = record { answer = w; map = m; table = t }
 
 -- a refusal changes nothing
 abbrev pub refused : {A : Type 0} → ℕ → ConsistentNodeMap → List ℕ → After A
@@ -45,9 +45,9 @@ add_call m t =
     let c = m.total in
     let x = vacant t c in
     cond (fitting m t)
-    (cond (ltb x c) (after (says x) m (set t x 1))
+    (cond (ltb x c) (after (result x) m (set t x 1))
     (cond (eqb c (length t) || eqb c slot_limit) (refused 9 m t)
-    (after (says c) (map_of (c + 1)) (set t c 1))))
+    (after (result c) (map_of (c + 1)) (set t c 1))))
     (refused 12 m t)
 
 -- "Remove of the last slot lowers the count by one only and writes no byte; of another it sets the byte to 0." 10: "remove of a
@@ -57,23 +57,23 @@ remove_call m t x =
     let c = m.total in
     cond (fitting m t)
     (cond (active t c x)
-    (cond (eqb (x + 1) c) (after (says tt) (map_of x) t) (after (says tt) m (set t x 0)))
+    (cond (eqb (x + 1) c) (after (result tt) (map_of x) t) (after (result tt) m (set t x 0)))
     (refused 10 m t))
     (refused 12 m t)
 
 -- ---- the slot queries
 
 -- 12, or the answer
-unfoldable pub queried : {A : Type 0} → ConsistentNodeMap → List ℕ → A → Told A
-queried m t a = cond (fitting m t) (says a) (refusal 12)
+unfoldable pub queried : {A : Type 0} → ConsistentNodeMap → List ℕ → A → Answer A
+queried m t a = cond (fitting m t) (result a) (refusal 12)
 
-abbrev pub len_call : ConsistentNodeMap → List ℕ → Told ℕ
+abbrev pub len_call : ConsistentNodeMap → List ℕ → Answer ℕ
 len_call m t = queried m t (length (actives t m.total))
 
-abbrev pub is_empty_call : ConsistentNodeMap → List ℕ → Told Bool
+abbrev pub is_empty_call : ConsistentNodeMap → List ℕ → Answer Bool
 is_empty_call m t = queried m t (eqb (length (actives t m.total)) 0)
 
-abbrev pub is_active_call : ConsistentNodeMap → List ℕ → ℕ → Told Bool
+abbrev pub is_active_call : ConsistentNodeMap → List ℕ → ℕ → Answer Bool
 is_active_call m t x = queried m t (active t m.total x)
 
 -- ---- get
@@ -83,12 +83,12 @@ unfoldable pub look_up : ℕ → List ℕ → ℕ → ℕ → maybe.Option ℕ
 look_up c t s places = find (active t c) (take places (Q s c))
 
 -- "11 get .. with none active"
-abbrev pub or_none : maybe.Option ℕ → Told ℕ
+abbrev pub or_none : maybe.Option ℕ → Answer ℕ
 or_none maybe.none = refusal 11
-or_none (maybe.some x) = says x
+or_none (maybe.some x) = result x
 
 -- 4: "scratch shorter than the smaller of the table's length and 65,536"
-unfoldable pub get_call : ConsistentNodeMap → List ℕ → ℕ → ℕ → Told ℕ
+unfoldable pub get_call : ConsistentNodeMap → List ℕ → ℕ → ℕ → Answer ℕ
 get_call m t s places =
     cond (fitting m t)
     (cond (ltb places (min (length t) slot_limit)) (refusal 4) (or_none (holder s t m.total)))

@@ -1,7 +1,7 @@
 // The slot map of document 01: a slot count, and a byte a slot in a table that is lent to each call.
 ghost use Rattle.std.specs.Prelude.{◌≡◌, min, length, take, is_ok, IfOk, IfErr};
 ghost use Rattle.choosers.specs.Slots.{state_of};
-ghost use Rattle.answers.specs.Refusals.{told, optional};
+ghost use Rattle.answers.specs.Refusals.{answer_of, optional};
 ghost use Rattle.answers.specs.declared.Refusal.TheVariants.{Misfit};
 ghost use Rattle.choosers.specs.SlotCalls.{map_of, slot_limit, fitting, after, add_call, remove_call, len_call, is_empty_call, is_active_call, look_up, get_call, ScratchFree, ScratchAfter};
 
@@ -76,7 +76,7 @@ impl ConsistentNodeMap {
 
     // The lowest deleted slot, else a new one: refused where there is neither.
     pub fn add(&mut self, table: &mut [u8]) -> Result<u32, Refusal>
-        ensures { after (told result) self.new table.new ≡ add_call self.old table.old }
+        ensures { after (answer_of result) self.new table.new ≡ add_call self.old table.old }
     {
         if let Some(x) = tables::lowest(self.slots(table)?) {
             table[x] = 1;
@@ -94,7 +94,7 @@ impl ConsistentNodeMap {
 
     // Takes a slot out: refused where it is not active.
     pub fn remove(&mut self, table: &mut [u8], slot: u32) -> Result<(), Refusal>
-        ensures { after (told result) self.new table.new ≡ remove_call self.old table.old slot }
+        ensures { after (answer_of result) self.new table.new ≡ remove_call self.old table.old slot }
     {
         if self.slots(table)?.get(slot as usize) != Some(&1) {
             return Err(Refusal::SlotNotActive);
@@ -109,21 +109,21 @@ impl ConsistentNodeMap {
 
     // How many slots are active.
     pub fn len(self, table: &[u8]) -> Result<u32, Refusal>
-        ensures { told result ≡ len_call self table.now }
+        ensures { answer_of result ≡ len_call self table.now }
     {
         Ok(tables::sum(self.slots(table)?))
     }
 
     // Whether none is active.
     pub fn is_empty(self, table: &[u8]) -> Result<bool, Refusal>
-        ensures { told result ≡ is_empty_call self table.now }
+        ensures { answer_of result ≡ is_empty_call self table.now }
     {
         Ok(!tables::any(self.slots(table)?))
     }
 
     // Whether a slot is active.
     pub fn is_active(self, table: &[u8], slot: u32) -> Result<bool, Refusal>
-        ensures { told result ≡ is_active_call self table.now slot }
+        ensures { answer_of result ≡ is_active_call self table.now slot }
     {
         Ok(self.slots(table)?.get(slot as usize) == Some(&1))
     }
@@ -137,7 +137,7 @@ impl ConsistentNodeMap {
 
     // The first active slot of the choice order of the count: refused where the scratch is too short or no slot is active.
     pub fn get(self, table: &[u8], state: u64, scratch: &mut [u64]) -> Result<u32, Refusal>
-        ensures answer { told result ≡ get_call self table.now state (length scratch.old) }
+        ensures answer { answer_of result ≡ get_call self table.now state (length scratch.old) }
         ensures scratch_after { ScratchAfter result scratch.old scratch.new }
     {
         let slots = self.slots(table)?;

@@ -7,13 +7,13 @@ use Prim.Native.Nat.{ℕ, ◌+◌, ◌^◌, ◌≤◌, ◌<◌}
 use borrow.Author.Tests.{lt-ltb, le-ltb}
 use lib.ListN.{length}
 use Rattle.std.specs.Prelude.{Option, Result}
-use Rattle.lists.specs.Told.{Told, says, refusal}
+use Rattle.answers.specs.Answers.{Answer, result, refusal}
 use Rattle.lists.specs.Lists.{written}
 use Rattle.answers.specs.declared.Refusal.{Refusal}
-use Rattle.answers.specs.Refusals.{told}
+use Rattle.answers.specs.Refusals.{answer_of}
 use Rattle.orders.specs.declared.consistent_reservoir.Exchange.{Exchange}
 use Rattle.orders.specs.declared.consistent_reservoir.ConsistentReservoir.{ConsistentReservoir}
-use Rattle.orders.specs.ReservoirCalls.{fitting, after, after_open, open_call, short_refusal, told_exchange, admit_call, grow_layer_call, after_sample, sample_call}
+use Rattle.orders.specs.ReservoirCalls.{fitting, after, after_open, open_call, short_refusal, answer_of_exchange, admit_call, grow_layer_call, after_sample, sample_call}
 use Rattle.exports.specs.Coded.{truth, coded_done}
 use Rattle.exports.specs.Crossings.{crossed, crossed_one, words_after}
 use Rattle.exports.specs.InnerRecords.{made_over}
@@ -25,14 +25,14 @@ pub new_short : (k n key : ℕ) (l ws : List ℕ) (r w : ℕ) → r ≡ 2 ^ 63 +
 unfolding new_crossed
 new_short k n key l ws r w e s h = rw (e, s, lt-ltb (length ws) 6 h)
 
-pub opened_is : (ws l : List ℕ) (t : Told ConsistentReservoir) → crossed (coded_done t) (made_over (λ w r. written (words_of r) w) ws t) l ≡ opened_as ws t l
-opened_is ws l (says r) = refl
+pub opened_is : (ws l : List ℕ) (t : Answer ConsistentReservoir) → crossed (coded_done t) (made_over (λ w r. written (words_of r) w) ws t) l ≡ opened_as ws t l
+opened_is ws l (result r) = refl
 opened_is ws l (refusal c) = refl
 
-pub new_crosses : (k n key : ℕ) (l ws l' ws' : List ℕ) (o : Result ConsistentReservoir Refusal) (a : ℕ) → after_open (told o) l' ≡ open_call k n key l → 6 ≤ length ws
-    → a ≡ coded_done (told o) → ws' ≡ made_over (λ w r. written (words_of r) w) ws (told o) → crossed a ws' l' ≡ new_crossed k n key l ws
+pub new_crosses : (k n key : ℕ) (l ws l' ws' : List ℕ) (o : Result ConsistentReservoir Refusal) (a : ℕ) → after_open (answer_of o) l' ≡ open_call k n key l → 6 ≤ length ws
+    → a ≡ coded_done (answer_of o) → ws' ≡ made_over (λ w r. written (words_of r) w) ws (answer_of o) → crossed a ws' l' ≡ new_crossed k n key l ws
 unfolding new_crossed
-new_crosses k n key l ws l' ws' o a e h x y = rw (le-ltb (length ws) 6 h, ← e, x, y) (opened_is ws l' (told o))
+new_crosses k n key l ws l' ws' o a e h x y = rw (le-ltb (length ws) 6 h, ← e, x, y) (opened_is ws l' (answer_of o))
 
 -- ---- admit
 
@@ -40,11 +40,11 @@ pub next_short : (ws l : List ℕ) (r : ℕ) → r ≡ 2 ^ 63 + 4 → length ws 
 unfolding next_crossed
 next_short ws l r e h = rw (e, lt-ltb (length ws) 6 h)
 
-pub next_crosses : (ws l ws' l' : List ℕ) (r b : ConsistentReservoir) (e : Result (Option Exchange) Refusal) (x : ℕ) → r ≡ record_of ws → after (told_exchange e) b l' ≡ admit_call r l → 6 ≤ length ws
-    → ws' ≡ words_after ws (told_exchange e) (words_of b) → x ≡ coded_exchange (told_exchange e) → crossed x ws' l' ≡ next_crossed ws l
+pub next_crosses : (ws l ws' l' : List ℕ) (r b : ConsistentReservoir) (e : Result (Option Exchange) Refusal) (x : ℕ) → r ≡ record_of ws → after (answer_of_exchange e) b l' ≡ admit_call r l → 6 ≤ length ws
+    → ws' ≡ words_after ws (answer_of_exchange e) (words_of b) → x ≡ coded_exchange (answer_of_exchange e) → crossed x ws' l' ≡ next_crossed ws l
 unfolding next_crossed
 next_crosses ws l ws' l' r b e x is f h w c =
-    let from_words : admit_call (record_of ws) l ≡ after (told_exchange e) b l' = sym (f ∙ ap (λ (z : ConsistentReservoir). admit_call z l) is) in
+    let from_words : admit_call (record_of ws) l ≡ after (answer_of_exchange e) b l' = sym (f ∙ ap (λ (z : ConsistentReservoir). admit_call z l) is) in
     rw (le-ltb (length ws) 6 h, from_words, w, c)
 
 -- ---- grow_layer
@@ -53,11 +53,11 @@ pub grow_short : (ws l : List ℕ) (r : ℕ) → r ≡ 2 ^ 63 + 4 → length ws 
 unfolding grow_crossed
 grow_short ws l r e h = rw (e, lt-ltb (length ws) 6 h)
 
-pub grow_crosses : (ws l ws' l' : List ℕ) (r b : ConsistentReservoir) (e : Result (Unit {0}) Refusal) (x : ℕ) → r ≡ record_of ws → after (told e) b l' ≡ grow_layer_call r l → 6 ≤ length ws
-    → ws' ≡ words_after ws (told e) (words_of b) → x ≡ coded_done (told e) → crossed x ws' l' ≡ grow_crossed ws l
+pub grow_crosses : (ws l ws' l' : List ℕ) (r b : ConsistentReservoir) (e : Result (Unit {0}) Refusal) (x : ℕ) → r ≡ record_of ws → after (answer_of e) b l' ≡ grow_layer_call r l → 6 ≤ length ws
+    → ws' ≡ words_after ws (answer_of e) (words_of b) → x ≡ coded_done (answer_of e) → crossed x ws' l' ≡ grow_crossed ws l
 unfolding grow_crossed
 grow_crosses ws l ws' l' r b e x is f h w c =
-    let from_words : grow_layer_call (record_of ws) l ≡ after (told e) b l' = sym (f ∙ ap (λ (z : ConsistentReservoir). grow_layer_call z l) is) in
+    let from_words : grow_layer_call (record_of ws) l ≡ after (answer_of e) b l' = sym (f ∙ ap (λ (z : ConsistentReservoir). grow_layer_call z l) is) in
     rw (le-ltb (length ws) 6 h, from_words, w, c)
 
 -- ---- the sample, and the test
@@ -66,11 +66,11 @@ pub sample_few : (ws l o : List ℕ) (r : ℕ) → r ≡ 2 ^ 63 + 4 → length w
 unfolding sample_crossed
 sample_few ws l o r e h = rw (e, lt-ltb (length ws) 6 h)
 
-pub sample_coded : (ws l o : List ℕ) (r : ConsistentReservoir) (a : Result (Unit {0}) Refusal) (o' : List ℕ) (x : ℕ) → r ≡ record_of ws → after_sample (told a) o' ≡ sample_call r l o
-    → x ≡ coded_done (told a) → 6 ≤ length ws → crossed_one x o' ≡ sample_crossed ws l o
+pub sample_coded : (ws l o : List ℕ) (r : ConsistentReservoir) (a : Result (Unit {0}) Refusal) (o' : List ℕ) (x : ℕ) → r ≡ record_of ws → after_sample (answer_of a) o' ≡ sample_call r l o
+    → x ≡ coded_done (answer_of a) → 6 ≤ length ws → crossed_one x o' ≡ sample_crossed ws l o
 unfolding sample_crossed
 sample_coded ws l o r a o' x is e w h =
-    let f : sample_call (record_of ws) l o ≡ after_sample (told a) o' = sym (e ∙ ap (λ (z : ConsistentReservoir). sample_call z l o) is) in
+    let f : sample_call (record_of ws) l o ≡ after_sample (answer_of a) o' = sym (e ∙ ap (λ (z : ConsistentReservoir). sample_call z l o) is) in
     rw (le-ltb (length ws) 6 h, f, w)
 
 pub fits_coded : (ws l : List ℕ) (r : ConsistentReservoir) (b : Bool) (x : ℕ) → r ≡ record_of ws → b ≡ fitting r l → x ≡ truth b → 6 ≤ length ws

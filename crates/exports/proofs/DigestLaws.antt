@@ -9,12 +9,12 @@ use lib.ListN.{length}
 use Rattle.std.specs.Prelude.{true, Result, Ok, Err, is_ok}
 use Rattle.std.specs.Prelude as rust
 use Rattle.answers.specs.declared.Refusal.{Refusal}
-use Rattle.answers.specs.Refusals.{told_option}
-use Rattle.lists.specs.Told.{says, refusal}
+use Rattle.answers.specs.Refusals.{answer_of_option}
+use Rattle.answers.specs.Answers.{result, refusal}
 use Rattle.hashes.specs.Hashes.{feed}
 use Rattle.hashes.specs.Calls.{limited}
-use Rattle.lists.specs.Steps.{Step, stepped_to}
-use Rattle.lists.proofs.Turns.{Turn, ended, gave}
+use Rattle.answers.specs.Steps.{Step, stepped_to}
+use Rattle.answers.proofs.Turns.{Turn, ended, gave}
 use Rattle.hashes.proofs.CallLaws.{limited_in, limited_out, limited_says, limited_refuses}
 use Rattle.exports.specs.Coded.{fed_all, digest, coded_number}
 
@@ -25,7 +25,7 @@ module _ {W : Type 0} {step : W → Step W} {rest : W → List ℕ} {good : W �
     pub same : fed_all (feed d x) (rest v) ≡ fed_all d (rest w)
     pub less : length (rest v) < length (rest w)
 
-  pub fed : (d x : ℕ) (v w : W) → good w → stepped_to (says (some x)) v ≡ step w → Fed d x v w
+  pub fed : (d x : ℕ) (v w : W) → good w → stepped_to (result (some x)) v ≡ step w → Fed d x v w
   fed d x v w g p = go (turn w g)
     where
       go : Turn step rest good w → Fed d x v w
@@ -38,7 +38,7 @@ module _ {W : Type 0} {step : W → Step W} {rest : W → List ℕ} {good : W �
           record { goes_on = rw v' at more; same = ap (fed_all d) (sym s); less = rw s (omega arith) }
 
   -- it gave none: nothing was left
-  pub fed_all_of : (v w : W) → good w → stepped_to (says none) v ≡ step w → rest w ≡ []
+  pub fed_all_of : (v w : W) → good w → stepped_to (result none) v ≡ step w → rest w ≡ []
   fed_all_of v w g p = go (turn w g)
     where
       go : Turn step rest good w → rest w ≡ []
@@ -46,7 +46,7 @@ module _ {W : Type 0} {step : W → Step W} {rest : W → List ℕ} {good : W �
       go (gave y is more splits) = let f = ap (λ (t : Step W). t.said) p in let z : ◌≡◌ {A = ℕ} 0 1 = cc in absurd (omega arith)
 
   -- it is not refused
-  pub fed_ok : (said : Result (rust.Option ℕ) Refusal) (v w : W) → good w → stepped_to (told_option said) v ≡ step w → is_ok said ≡ true
+  pub fed_ok : (said : Result (rust.Option ℕ) Refusal) (v w : W) → good w → stepped_to (answer_of_option said) v ≡ step w → is_ok said ≡ true
   fed_ok (Ok x) v w g p = refl
   fed_ok (Err why) v w g p = go (turn w g)
     where
@@ -57,7 +57,7 @@ module _ {W : Type 0} {step : W → Step W} {rest : W → List ℕ} {good : W �
 -- ---- the answer of a call that makes a walk and feeds it, over any walk: xs n is what it gives
 
 module _ {W : Type 0} (n : ℕ) (start : W) (rest : W → List ℕ) where
-  pub digest_made : (w : W) (r : ℕ) → limited n start ≡ says w → r ≡ fed_all 0 (rest w) → r % 2 ^ 63 ≡ coded_number (limited n (digest (rest start)))
+  pub digest_made : (w : W) (r : ℕ) → limited n start ≡ result w → r ≡ fed_all 0 (rest w) → r % 2 ^ 63 ≡ coded_number (limited n (digest (rest start)))
   unfolding digest
   digest_made w r e q =
       let s = limited_says n start w e in

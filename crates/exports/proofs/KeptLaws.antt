@@ -3,21 +3,21 @@
 use Rattle.std.proofs.Common.{◌≡◌, cond, List, ℕ, Option, Some, None, Result, Ok, Err, is_ok, refl}
 use Rattle.lists.specs.Lists.{written}
 use Rattle.answers.specs.declared.Refusal.{Refusal}
-use Rattle.answers.specs.Refusals.{told, told_option}
+use Rattle.answers.specs.Refusals.{answer_of, answer_of_option}
 use Rattle.orders.specs.declared.consistent_reservoir.Exchange.{Exchange}
-use Rattle.orders.specs.ReservoirCalls.{told_exchange}
+use Rattle.orders.specs.ReservoirCalls.{answer_of_exchange}
 use Rattle.exports.specs.Crossings.{crossed_one, words_after}
 
 module _ (ws rs : List ℕ) where
-  pub kept : {A : Type 0} (said : Result A Refusal) → cond (is_ok said) (written rs ws) ws ≡ words_after ws (told said) rs
+  pub kept : {A : Type 0} (said : Result A Refusal) → cond (is_ok said) (written rs ws) ws ≡ words_after ws (answer_of said) rs
   kept (Ok x) = refl
   kept (Err why) = refl
 
-  pub kept_option : (said : Result (Option ℕ) Refusal) → cond (is_ok said) (written rs ws) ws ≡ words_after ws (told_option said) rs
+  pub kept_option : (said : Result (Option ℕ) Refusal) → cond (is_ok said) (written rs ws) ws ≡ words_after ws (answer_of_option said) rs
   kept_option (Ok x) = refl
   kept_option (Err why) = refl
 
-  pub kept_exchange : (said : Result (Option Exchange) Refusal) → cond (is_ok said) (written rs ws) ws ≡ words_after ws (told_exchange said) rs
+  pub kept_exchange : (said : Result (Option Exchange) Refusal) → cond (is_ok said) (written rs ws) ws ≡ words_after ws (answer_of_exchange said) rs
   kept_exchange (Ok (Some e)) = refl
   kept_exchange (Ok None) = refl
   kept_exchange (Err why) = refl

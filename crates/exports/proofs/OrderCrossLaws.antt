@@ -5,7 +5,7 @@ use mathlib.Core.List.{List}
 use Prim.Native.Nat.{ℕ, ◌+◌, ◌%◌, ◌^◌, ◌≤◌, ◌<◌}
 use borrow.Author.Tests.{lt-ltb, le-ltb}
 use lib.ListN.{length, take}
-use Rattle.lists.specs.Told.{Told, says, refusal}
+use Rattle.answers.specs.Answers.{Answer, result, refusal}
 use Rattle.lists.specs.Lists.{written}
 use Rattle.std.specs.Prelude.{Result, Ok, Err, is_ok, cond}
 use Rattle.std.specs.Prelude as rust
@@ -17,7 +17,7 @@ use borrow.Rule.Slice.PartMut.{put_mid}
 use Rattle.std.proofs.Common.{arith, ap, map, get_or, sym, ◌/◌, ◌∷◌, [], ◌++◌}
 use Rattle.orders.specs.OrderCalls.{key_of}
 use Rattle.answers.specs.declared.Refusal.{Refusal}
-use Rattle.answers.specs.Refusals.{told, told_option}
+use Rattle.answers.specs.Refusals.{answer_of, answer_of_option}
 use Rattle.orders.specs.declared.consistent_permutation.ConsistentPermutation.{ConsistentPermutation}
 use Rattle.orders.specs.Orders.{P}
 use Rattle.orders.specs.OrderCalls.{new_call, step, next_call}
@@ -46,14 +46,14 @@ pub new_short : (n key : ℕ) (ws : List ℕ) (r w : ℕ) → r ≡ 2 ^ 63 + w �
 unfolding new_order_crossed
 new_short n key ws r w e s h = rw (e, s, lt-ltb (length ws) 18 h)
 
-pub started_is : (ws : List ℕ) (t : Told ConsistentPermutation) → crossed_one (coded_done t) (made_over (λ w o. written (order_words o) w) ws t) ≡ started_as ws t
-started_is ws (says o) = refl
+pub started_is : (ws : List ℕ) (t : Answer ConsistentPermutation) → crossed_one (coded_done t) (made_over (λ w o. written (order_words o) w) ws t) ≡ started_as ws t
+started_is ws (result o) = refl
 started_is ws (refusal c) = refl
 
-pub new_crosses : (n key : ℕ) (ws ws' : List ℕ) (s : Result ConsistentPermutation Refusal) (a : ℕ) → told s ≡ new_call n key → 18 ≤ length ws
-    → a ≡ coded_done (told s) → ws' ≡ made_over (λ w o. written (order_words o) w) ws (told s) → crossed_one a ws' ≡ new_order_crossed n key ws
+pub new_crosses : (n key : ℕ) (ws ws' : List ℕ) (s : Result ConsistentPermutation Refusal) (a : ℕ) → answer_of s ≡ new_call n key → 18 ≤ length ws
+    → a ≡ coded_done (answer_of s) → ws' ≡ made_over (λ w o. written (order_words o) w) ws (answer_of s) → crossed_one a ws' ≡ new_order_crossed n key ws
 unfolding new_order_crossed
-new_crosses n key ws ws' s a e h x y = rw (le-ltb (length ws) 18 h, ← e, x, y) (started_is ws (told s))
+new_crosses n key ws ws' s a e h x y = rw (le-ltb (length ws) 18 h, ← e, x, y) (started_is ws (answer_of s))
 
 -- ---- next
 
@@ -61,8 +61,8 @@ pub next_short : (ws : List ℕ) (r : ℕ) → r ≡ 2 ^ 63 + 4 → length ws < 
 unfolding next_order_crossed
 next_short ws r e h = rw (e, lt-ltb (length ws) 18 h)
 
-pub next_crosses : (ws ws' : List ℕ) (g : Result (rust.Option ℕ) Refusal) (v : ConsistentPermutation) (x : ℕ) → step (told_option g) v ≡ next_call (order_as ws)
-    → ws' ≡ cond (is_ok g) (written (order_words v) ws) ws → x ≡ coded_hash (told_option g) → 18 ≤ length ws → crossed_one x ws' ≡ next_order_crossed ws
+pub next_crosses : (ws ws' : List ℕ) (g : Result (rust.Option ℕ) Refusal) (v : ConsistentPermutation) (x : ℕ) → step (answer_of_option g) v ≡ next_call (order_as ws)
+    → ws' ≡ cond (is_ok g) (written (order_words v) ws) ws → x ≡ coded_hash (answer_of_option g) → 18 ≤ length ws → crossed_one x ws' ≡ next_order_crossed ws
 unfolding next_order_crossed
 next_crosses ws ws' (Ok y) v x e w c h = rw (le-ltb (length ws) 18 h, ← e, w, c)
 next_crosses ws ws' (Err why) v x e w c h = rw (le-ltb (length ws) 18 h, ← e, w, c)

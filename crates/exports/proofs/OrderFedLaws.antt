@@ -10,11 +10,11 @@ use borrow.Author.Tests.{le-ltb}
 use lib.ListN.{take}
 use lib.Seq.{take-nil}
 use Rattle.std.specs.Prelude.{Result, Ok, Err, is_ok}
-use Rattle.lists.specs.Told.{Told, map_told}
-use Rattle.lists.proofs.Turns.{Turn, ended, gave}
+use Rattle.answers.specs.Answers.{Answer, map_answer}
+use Rattle.answers.proofs.Turns.{Turn, ended, gave}
 use Rattle.answers.specs.declared.Refusal.{Refusal}
-use Rattle.answers.specs.Refusals.{told}
-use Rattle.answers.proofs.Tolds.{told_ok}
+use Rattle.answers.specs.Refusals.{answer_of}
+use Rattle.answers.proofs.BackLaws.{answer_ok}
 use Rattle.orders.specs.declared.consistent_permutation.ConsistentPermutation.{ConsistentPermutation}
 use Rattle.orders.specs.declared.order_walk.OrderWalk.{OrderWalk}
 use Rattle.orders.specs.Orders.{none_counted, P}
@@ -26,16 +26,16 @@ use Rattle.exports.specs.InnerDigests.{fed_with}
 -- ---- the order that is made, and its walk
 
 -- no order is refused where n is within the limit
-pub order_made : (n key : ℕ) (s : Result ConsistentPermutation Refusal) → told s ≡ new_call n key → n ≤ 2 ^ 30 → s ≡ Ok (order_of key n none_counted)
+pub order_made : (n key : ℕ) (s : Result ConsistentPermutation Refusal) → answer_of s ≡ new_call n key → n ≤ 2 ^ 30 → s ≡ Ok (order_of key n none_counted)
 unfolding new_call
-order_made n key s e h = told_ok s _ (rw (le-ltb (2 ^ 30) n h) at e)
+order_made n key s e h = answer_ok s _ (rw (le-ltb (2 ^ 30) n h) at e)
 
-pub order_is : (n key : ℕ) (s : Result ConsistentPermutation Refusal) (o : ConsistentPermutation) → told s ≡ new_call n key → n ≤ 2 ^ 30 → s ≡ Ok o → o ≡ order_of key n none_counted
+pub order_is : (n key : ℕ) (s : Result ConsistentPermutation Refusal) (o : ConsistentPermutation) → answer_of s ≡ new_call n key → n ≤ 2 ^ 30 → s ≡ Ok o → o ≡ order_of key n none_counted
 order_is n key s o e h m = let f = sym m ∙ order_made n key s e h in cc
 
 -- nor the walk of an order that has gone from its start
 abbrev pub Walks : Result OrderWalk Refusal → ConsistentPermutation → Type 0
-Walks s o = map_told (λ (w : OrderWalk). w.order) (told s) ≡ walk_new_call o
+Walks s o = map_answer (λ (w : OrderWalk). w.order) (answer_of s) ≡ walk_new_call o
 
 pub walk_made : (o : ConsistentPermutation) (s : Result OrderWalk Refusal) → Walks s o → Going o → is_ok s ≡ true
 walk_made o (Ok w) e g = refl
@@ -65,7 +65,7 @@ module _ (key n count i d : ℕ) (o : ConsistentPermutation) (f : Feeding key n 
       record { going = more; rest = rw said (rw (splits, e) at f.rest) }
 
   -- a call that said g and left v, and the state e that it fed
-  pub feeding_turn : (e : ℕ) (v : ConsistentPermutation) (g : Told (Option ℕ)) → i < count → step g v ≡ next_call o → e ≡ fed_with d g → Feeding key n count (i + 1) e v
+  pub feeding_turn : (e : ℕ) (v : ConsistentPermutation) (g : Answer (Option ℕ)) → i < count → step g v ≡ next_call o → e ≡ fed_with d g → Feeding key n count (i + 1) e v
   feeding_turn e v g h p q =
       let t = turned h (next_turn o f.going) in rw (add-one i, q) (rw (← p) at t)
 

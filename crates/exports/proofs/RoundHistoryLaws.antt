@@ -9,7 +9,7 @@ use native.Mathlib.Omega.{arith}
 use borrow.Author.Tests.{lt-ltb, le-ltb, ne_eqb}
 use lib.Dec.{eqb}
 use lib.ListN.{length}
-use Rattle.lists.specs.Told.{Told, refusal, says, map_told}
+use Rattle.answers.specs.Answers.{Answer, refusal, result, map_answer}
 use Rattle.lists.specs.Lists.{written}
 use Rattle.lists.proofs.Tests.{by_below}
 use Rattle.lists.proofs.Writing.{length_written}
@@ -18,14 +18,14 @@ use Rattle.rounds.specs.declared.round.Round.{Round}
 use Rattle.rounds.specs.Rounds.{State, state, AfterOpen, after_open, open_call, After, admit_call, join_call, withdraw_call}
 use Rattle.rounds.specs.Ledgers.{Call, admit, join, withdraw, exchanged}
 use Rattle.rounds.specs.Histories.{slot_said, nothing_said, Opens, Made, AllMade, made_none, made_next, valued, call}
-use Rattle.rounds.proofs.FormLaws.{told_back, numbered, call_made, refused_unchanged}
+use Rattle.rounds.proofs.FormLaws.{answer_back, numbered, call_made, refused_unchanged}
 use Rattle.exports.specs.Coded.{coded_done, coded_number}
 use Rattle.exports.specs.Reservoirs.{coded_exchange}
 use Rattle.exports.specs.Crossings.{Crossed, crossed, words_after}
 use Rattle.exports.specs.Rounds.{round_words, round_as, words_opened, open_crossed, CrossedRound, crossed_round, left_as, admit_crossed, join_crossed, withdraw_crossed}
 use Rattle.exports.specs.RoundHistories.{Lent, lent, round_in, OpenedIn, MadeIn, admit_in, join_in, withdraw_in, AllMadeIn, none_in, next_in, number_of, numbers_of, plan_said, PlannedIn, RoundHistory}
-use Rattle.answers.specs.Refusals.{told}
-use Rattle.answers.proofs.Tolds.{refusal_of, back}
+use Rattle.answers.specs.Refusals.{answer_of}
+use Rattle.answers.proofs.BackLaws.{refusal_of, back}
 use Rattle.lists.specs.Lists.{every}
 use Rattle.rounds.specs.RefusedBy.{plan_refusals}
 use Rattle.rounds.proofs.RefusedLaws.{plan_spares}
@@ -41,67 +41,67 @@ round_back r ws =
     let key : r.master_key / 2 ^ 32 * 2 ^ 32 + r.master_key % 2 ^ 32 ≡ r.master_key = omega arith in
     λ i. record { master_key = key i; k = r.k; n = r.n; j_max = r.j_max; used = r.used; total = r.total }
 
-long_after : {A : Type 0} (ws : List ℕ) (t : Told A) (r : Round) → 7 ≤ length ws → 7 ≤ length (words_after ws t (round_words r))
-long_after ws (says x) r h = omega (arith, length_written (round_words r) ws h)
+long_after : {A : Type 0} (ws : List ℕ) (t : Answer A) (r : Round) → 7 ≤ length ws → 7 ≤ length (words_after ws t (round_words r))
+long_after ws (result x) r h = omega (arith, length_written (round_words r) ws h)
 long_after ws (refusal c) r h = h
 
 -- ---- a call
 
 module _ (s : State) (c : Call) (ws : List ℕ) (is : round_as ws ≡ s.round) where
   -- the words after a call hold the record after it
-  words_by : (w : Told (List ℕ)) → (call s c).told ≡ w → round_as (words_after ws w (round_words (call s c).state.round)) ≡ (call s c).state.round
-  words_by (says vs) e = round_back (call s c).state.round ws
+  words_by : (w : Answer (List ℕ)) → (call s c).answer ≡ w → round_as (words_after ws w (round_words (call s c).state.round)) ≡ (call s c).state.round
+  words_by (result vs) e = round_back (call s c).state.round ws
   words_by (refusal n) e =
-      let m : Made s c (refusal n) (call s c).state = subst (λ (w : Told (List ℕ)). Made s c w (call s c).state) e (call_made s c) in
+      let m : Made s c (refusal n) (call s c).state = subst (λ (w : Answer (List ℕ)). Made s c w (call s c).state) e (call_made s c) in
       is ∙ sym (ap (λ (z : State). z.round) (refused_unchanged m))
 
-  words_back : round_as (words_after ws (call s c).told (round_words (call s c).state.round)) ≡ (call s c).state.round
-  words_back = words_by (call s c).told refl
+  words_back : round_as (words_after ws (call s c).answer (round_words (call s c).state.round)) ≡ (call s c).state.round
+  words_back = words_by (call s c).answer refl
 
 -- what is so of a call: it is made on the round in x, its answer is a, and enough words stand there still
 record CallIn (x : Lent) (c : Call) (a : ℕ) (y : Lent) : Type 0 where
-  w : Told (List ℕ)
+  w : Answer (List ℕ)
   made : Made (round_in x) c w (round_in y)
   said : a ≡ number_of c w
   long : 7 ≤ length y.words
 
-after_map : {A B : Type 0} (f : A → B) (ws rs : List ℕ) (t : Told A) → words_after ws t rs ≡ words_after ws (map_told f t) rs
-after_map f ws rs (says x) = refl
+after_map : {A B : Type 0} (f : A → B) (ws rs : List ℕ) (t : Answer A) → words_after ws t rs ≡ words_after ws (map_answer f t) rs
+after_map f ws rs (result x) = refl
 after_map f ws rs (refusal c) = refl
 
 -- by the model's call b, whose values are f's and whose answer is coded so
-module _ (x : Lent) (h : 7 ≤ length x.words) (c : Call) {B : Type 0} (f : B → List ℕ) (b : After B) (code : Told B → ℕ)
-    (is_call : valued f b ≡ call (round_in x) c) (is_code : (t : Told B) → code t ≡ number_of c (map_told f t)) where
+module _ (x : Lent) (h : 7 ≤ length x.words) (c : Call) {B : Type 0} (f : B → List ℕ) (b : After B) (code : Answer B → ℕ)
+    (is_call : valued f b ≡ call (round_in x) c) (is_code : (t : Answer B) → code t ≡ number_of c (map_answer f t)) where
   abbrev z : After (List ℕ)
   z = call (round_in x) c
 
   call_in : (a : ℕ) (ws l t : List ℕ) → crossed_round a ws l t ≡ left_as code x.words b → CallIn x c a (lent ws l t)
   call_in a ws l t e =
-      let words : ws ≡ words_after x.words z.told (round_words z.state.round) =
-      ap (λ (r : CrossedRound). r.words) e ∙ after_map f x.words (round_words b.state.round) b.told
-      ∙ ap (λ (q : After (List ℕ)). words_after x.words q.told (round_words q.state.round)) is_call in
+      let words : ws ≡ words_after x.words z.answer (round_words z.state.round) =
+      ap (λ (r : CrossedRound). r.words) e ∙ after_map f x.words (round_words b.state.round) b.answer
+      ∙ ap (λ (q : After (List ℕ)). words_after x.words q.answer (round_words q.state.round)) is_call in
       let round : round_as ws ≡ z.state.round = ap round_as words ∙ words_back (round_in x) c x.words refl in
       let list : l ≡ z.state.list = ap (λ (r : CrossedRound). r.list) e ∙ ap (λ (q : After (List ℕ)). q.state.list) is_call in
       let table : t ≡ z.state.table = ap (λ (r : CrossedRound). r.table) e ∙ ap (λ (q : After (List ℕ)). q.state.table) is_call in
       let left : z.state ≡ state (round_as ws) l t = λ i. state (sym round i) (sym list i) (sym table i) in
       record {
-        w = z.told;
-        made = subst (Made (round_in x) c z.told) left (call_made (round_in x) c);
-        said = ap (λ (r : CrossedRound). r.answer) e ∙ is_code b.told ∙ ap (λ (q : After (List ℕ)). number_of c q.told) is_call;
-        long = subst (λ (v : List ℕ). 7 ≤ length v) (sym words) (long_after x.words z.told z.state.round h);
+        w = z.answer;
+        made = subst (Made (round_in x) c z.answer) left (call_made (round_in x) c);
+        said = ap (λ (r : CrossedRound). r.answer) e ∙ is_code b.answer ∙ ap (λ (q : After (List ℕ)). number_of c q.answer) is_call;
+        long = subst (λ (v : List ℕ). 7 ≤ length v) (sym words) (long_after x.words z.answer z.state.round h);
       }
 
-code_exchange : (t : Told (Option (ℕ × ℕ))) → coded_exchange t ≡ number_of admit (map_told exchanged t)
-code_exchange (says none) = refl
-code_exchange (says (some p)) = refl
+code_exchange : (t : Answer (Option (ℕ × ℕ))) → coded_exchange t ≡ number_of admit (map_answer exchanged t)
+code_exchange (result none) = refl
+code_exchange (result (some p)) = refl
 code_exchange (refusal c) = refl
 
-code_slot : (t : Told ℕ) → coded_number t ≡ number_of join (map_told slot_said t)
-code_slot (says y) = refl
+code_slot : (t : Answer ℕ) → coded_number t ≡ number_of join (map_answer slot_said t)
+code_slot (result y) = refl
 code_slot (refusal c) = refl
 
-code_nothing : (x : ℕ) (t : Told (Unit {0})) → coded_done t ≡ number_of (withdraw x) (map_told nothing_said t)
-code_nothing x (says u) = refl
+code_nothing : (x : ℕ) (t : Answer (Unit {0})) → coded_done t ≡ number_of (withdraw x) (map_answer nothing_said t)
+code_nothing x (result u) = refl
 code_nothing x (refusal c) = refl
 
 module _ (x : Lent) (h : 7 ≤ length x.words) where
@@ -118,7 +118,7 @@ module _ (x : Lent) (h : 7 ≤ length x.words) where
 
 record CallsIn (x : Lent) (calls : List Call) (numbers : List ℕ) (y : Lent) : Type 0 where
   long : 7 ≤ length y.words
-  answers : List (Told (List ℕ))
+  answers : List (Answer (List ℕ))
   made : AllMade (round_in x) calls answers (round_in y)
   said : numbers ≡ numbers_of calls answers
 
@@ -136,13 +136,13 @@ module _ (key k n : ℕ) (x : Lent) (o : OpenedIn key k n x) where
   abbrev opened : AfterOpen
   opened = open_call key k n o.list
 
-  opens_by : 7 ≤ length o.words → (t : Told Round) → opened.told ≡ t → crossed 0 x.words x.list ≡ crossed (coded_done t) (words_opened o.words t) opened.list
+  opens_by : 7 ≤ length o.words → (t : Answer Round) → opened.answer ≡ t → crossed 0 x.words x.list ≡ crossed (coded_done t) (words_opened o.words t) opened.list
       → Opens key k n (round_in x) × (7 ≤ length x.words)
-  opens_by h (says r) q e =
+  opens_by h (result r) q e =
       let words : x.words ≡ written (round_words r) o.words = ap (λ (z : Crossed). z.words) e in
       let list : x.list ≡ opened.list = ap (λ (z : Crossed). z.list) e in
       let round : round_as x.words ≡ r = ap round_as words ∙ round_back r o.words in
-      (record { lent = o.list; accepted = λ i. after_open ((q ∙ ap says (sym round)) i) (sym list i) }, omega (arith, ap length words, length_written (round_words r) o.words h))
+      (record { lent = o.list; accepted = λ i. after_open ((q ∙ ap result (sym round)) i) (sym list i) }, omega (arith, ap length words, length_written (round_words r) o.words h))
   opens_by h (refusal w) q e = absurd (omega (arith, ap (λ (z : Crossed). z.answer) e))
 
   opens_in : Opens key k n (round_in x) × (7 ≤ length x.words)
@@ -151,7 +151,7 @@ module _ (key k n : ℕ) (x : Lent) (o : OpenedIn key k n x) where
       by_below (length o.words) 7
       (λ l. let e : crossed 0 x.words x.list ≡ crossed (2 ^ 63 + short_refusal k n) o.words o.list = rw (lt-ltb (length o.words) 7 l) at o.promise in
       absurd (omega (arith, ap (λ (z : Crossed). z.answer) e)))
-      (λ h. opens_by h opened.told refl (rw (le-ltb (length o.words) 7 h) at o.promise))
+      (λ h. opens_by h opened.answer refl (rw (le-ltb (length o.words) 7 h) at o.promise))
 
 -- ---- the plan
 
@@ -160,9 +160,9 @@ module _ (x : Lent) (h : 7 ≤ length x.words) (a : ℕ) (ls' ts' : List ℕ) (p
   plan_left = plan_call (round_in x) p.ls p.ts p.places
 
   -- by what it said
-  said_by : (t : Told (Unit {0})) → a ≡ coded_done t → shown_plan (round_in x).round.k (after_plan t ls' ts') ≡ plan_said (round_in x).round.k a ls' ts'
+  said_by : (t : Answer (Unit {0})) → a ≡ coded_done t → shown_plan (round_in x).round.k (after_plan t ls' ts') ≡ plan_said (round_in x).round.k a ls' ts'
   unfolding shown_plan
-  said_by (says u) e = rw e refl
+  said_by (result u) e = rw e refl
   said_by (refusal w) e =
       let n : eqb a 0 ≡ false = ne_eqb a 0 (λ z. omega arith) in
       let m : a - 2 ^ 63 ≡ w = omega (arith, e) in
@@ -171,19 +171,19 @@ module _ (x : Lent) (h : 7 ≤ length x.words) (a : ℕ) (ls' ts' : List ℕ) (p
   plan_in : PlanOf (round_in x) (plan_said (round_in x).round.k a ls' ts')
   unfolding plan_crossed every refusal_of
   plan_in =
-      let e : crossed_plan a ls' ts' ≡ crossed_plan (coded_done plan_left.told) plan_left.locations plan_left.terminals = rw (le-ltb (length x.words) 7 h) at p.promise in
-      let told_is : plan_left.told ≡ told (back plan_left.told) =
-      told_back plan_left.told (numbered plan_refusals plan_left.told (after_plan plan_left.told p.ls p.ts) plan_left refl (plan_spares (round_in x) p.ls p.ts p.places)) in
+      let e : crossed_plan a ls' ts' ≡ crossed_plan (coded_done plan_left.answer) plan_left.locations plan_left.terminals = rw (le-ltb (length x.words) 7 h) at p.promise in
+      let answer_is : plan_left.answer ≡ answer_of (back plan_left.answer) =
+      answer_back plan_left.answer (numbered plan_refusals plan_left.answer (after_plan plan_left.answer p.ls p.ts) plan_left refl (plan_spares (round_in x) p.ls p.ts p.places)) in
       record {
         ls = p.ls;
         ts = p.ts;
         places = p.places;
         enough = p.enough;
-        o = back plan_left.told;
+        o = back plan_left.answer;
         ls' = ls';
         ts' = ts';
-        promise = λ i. after_plan (sym told_is i) (ap (λ (z : CrossedPlan). z.locations) e i) (ap (λ (z : CrossedPlan). z.terminals) e i);
-        is = ap (λ (t : Told (Unit {0})). shown_plan (round_in x).round.k (after_plan t ls' ts')) (sym told_is) ∙ said_by plan_left.told (ap (λ (z : CrossedPlan). z.answer) e);
+        promise = λ i. after_plan (sym answer_is i) (ap (λ (z : CrossedPlan). z.locations) e i) (ap (λ (z : CrossedPlan). z.terminals) e i);
+        is = ap (λ (t : Answer (Unit {0})). shown_plan (round_in x).round.k (after_plan t ls' ts')) (sym answer_is) ∙ said_by plan_left.answer (ap (λ (z : CrossedPlan). z.answer) e);
       }
 
 -- THE THEOREM. From an open that answered 0, a list of functions called is a list of calls made, and a plan after it is the round's.

@@ -6,7 +6,7 @@ use Prim.Native.Nat.{ℕ, ◌+◌, ◌*◌, ◌^◌, ◌<◌}
 use native.Mathlib.Omega.{arith}
 use Rattle.std.specs.Prelude.{Result, Ok, Err, OnOk}
 use Rattle.answers.specs.declared.Refusal.{Refusal}
-use Rattle.answers.specs.Refusals.{number, told}
+use Rattle.answers.specs.Refusals.{number, answer_of}
 use Rattle.choosers.specs.declared.node_map.ConsistentNodeMap.{ConsistentNodeMap}
 use Rattle.choosers.specs.SlotCalls.{map_of, after, add_call, remove_call}
 use Rattle.choosers.specs.SlotCalls as calls
@@ -16,7 +16,7 @@ use Rattle.exports.specs.Slots.{add_crossed, remove_crossed, ScratchAfter}
 -- ---- add and remove
 
 module _ (c : ℕ) (t t' : List ℕ) (b : ConsistentNodeMap) where
-  module _ (y : Result ℕ Refusal) (e : after (told y) b t' ≡ add_call (map_of c) t) where
+  module _ (y : Result ℕ Refusal) (e : after (answer_of y) b t' ≡ add_call (map_of c) t) where
     pub add_slot : (x r : ℕ) → y ≡ Ok x → r ≡ b.total * 2 ^ 32 + x → crossed_one r t' ≡ add_crossed c t
     unfolding add_crossed
     add_slot x r s w = rw (← e, s, w)
@@ -25,7 +25,7 @@ module _ (c : ℕ) (t t' : List ℕ) (b : ConsistentNodeMap) where
     unfolding add_crossed
     add_refused x r s w = rw (← e, s, w)
 
-  module _ (x : ℕ) (o : Result (Unit {0}) Refusal) (e : after (told o) b t' ≡ remove_call (map_of c) t x) where
+  module _ (x : ℕ) (o : Result (Unit {0}) Refusal) (e : after (answer_of o) b t' ≡ remove_call (map_of c) t x) where
     pub remove_done : (r : ℕ) (u : Unit {0}) → o ≡ Ok u → r ≡ b.total → crossed_one r t' ≡ remove_crossed c t x
     unfolding remove_crossed
     remove_done r u s w = rw (← e, s, w)

@@ -8,9 +8,9 @@ use native.Mathlib.Omega.{arith}
 use borrow.Author.Tests.{ltb-true}
 use lib.Dec.{ltb}
 use lib.ListN.{length}
-use Rattle.lists.specs.Told.{Told, refusal, says}
+use Rattle.answers.specs.Answers.{Answer, refusal, result}
 use Rattle.lists.specs.Lists.{same, has}
-use Rattle.lists.specs.Refusing.{Spares}
+use Rattle.answers.specs.Refusing.{Spares}
 use Rattle.lists.proofs.Tests.{by_cond}
 use Rattle.lists.proofs.Having.{has_head, has_more}
 use Rattle.choosers.specs.RefusedBy as lists
@@ -20,9 +20,9 @@ use Rattle.exports.specs.Slots as Slots
 use Rattle.exports.specs.RefusedBy.{Crosses, said_by, words_refusals}
 
 -- 4 comes before all else
-pub first_four : {A M : Type 0} (vs : List ℕ) (t : Told A) (before now : M) → Spares vs t before now → Spares (4 ∷ vs) t before now
+pub first_four : {A M : Type 0} (vs : List ℕ) (t : Answer A) (before now : M) → Spares vs t before now → Spares (4 ∷ vs) t before now
 first_four vs (refusal w) before now s = (has_more w 4 vs s.0, s.1)
-first_four vs (says x) before now s = tt
+first_four vs (result x) before now s = tt
 
 pub four : (vs : List ℕ) → has 4 (4 ∷ vs) ≡ true
 four vs = has_head 4 vs
@@ -44,20 +44,20 @@ short_with_k n k = by_cond Is (ltb (2 ^ 62) n) _ _ (λ y. refl) (λ m. by_cond I
     Is w = has w lists.with_k_refusals ≡ true
 
 -- by cases: there are too few, or enough
-pub by_words : {A X : Type 0} (P : Told A → X → Type 0) (few : Bool) {r t : Told A} {x y : X} → P r x → P t y → P (cond few r t) (cond few x y)
+pub by_words : {A X : Type 0} (P : Answer A → X → Type 0) (few : Bool) {r t : Answer A} {x y : X} → P r x → P t y → P (cond few r t) (cond few x y)
 by_words P true p q = p
 by_words P false p q = q
 
 -- the words go with the list
-pub words_spared : {A : Type 0} (code : Told A → ℕ) (vs : List ℕ) (t : Told A) (ws rs l l' : List ℕ) → Spares vs t l l'
+pub words_spared : {A : Type 0} (code : Answer A → ℕ) (vs : List ℕ) (t : Answer A) (ws rs l l' : List ℕ) → Spares vs t l l'
     → Spares vs t (crossed (code t) ws l) (crossed (code t) (words_after ws t rs) l')
 words_spared code vs (refusal w) ws rs l l' s = (s.0, (λ i. crossed (code (refusal w)) ws (s.1 i)))
-words_spared code vs (says x) ws rs l l' s = tt
+words_spared code vs (result x) ws rs l l' s = tt
 
 -- whether a record fits: nothing is lent to be written
 pub fits_crosses : (ws : List ℕ) (count : ℕ) (b : Bool) → let a = cond (ltb (length ws) count) (2 ^ 63 + 4) (truth b) in
-    Crosses {M = Unit {0}} Slots.coded_truth words_refusals (said_by count ws (says b)) a tt tt
+    Crosses {M = Unit {0}} Slots.coded_truth words_refusals (said_by count ws (result b)) a tt tt
 unfolding has same
 fits_crosses ws count b =
-    by_words (λ (t : Told Bool) (a : ℕ). Crosses {M = Unit {0}} Slots.coded_truth words_refusals t a tt tt) (ltb (length ws) count)
+    by_words (λ (t : Answer Bool) (a : ℕ). Crosses {M = Unit {0}} Slots.coded_truth words_refusals t a tt tt) (ltb (length ws) count)
     (refl, (refl, refl)) (refl, tt)

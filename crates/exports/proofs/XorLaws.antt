@@ -6,7 +6,7 @@ use native.Mathlib.Omega.{arith}
 use borrow.Author.Tests.{lt-leb, le-leb}
 use native.Mathlib.Numerals.{add-one}
 use lib.Bits.{bit_xor}
-use Rattle.lists.specs.Told.{refusal, says}
+use Rattle.answers.specs.Answers.{refusal, result}
 use Rattle.lists.proofs.Tests.{by_below}
 use Rattle.layers.specs.declared.KeyedLayer.{KeyedLayer}
 use Rattle.layers.specs.Layer.{size, layer}
@@ -19,7 +19,7 @@ unfolding xors
 xors_step f n = rw (add-one n)
 
 -- the record that was made, and n within its size
-pub made : (j key n : ℕ) (f : KeyedLayer) (y : ℕ) → keyed j key ≡ says f → n ≤ f.size → (j ≤ 14 → f ≡ keyed_layer j key → y ≡ xors (layer j key) n)
+pub made : (j key n : ℕ) (f : KeyedLayer) (y : ℕ) → keyed j key ≡ result f → n ≤ f.size → (j ≤ 14 → f ≡ keyed_layer j key → y ≡ xors (layer j key) n)
     → y ≡ coded (layer_xors j key n)
 unfolding layer_xors
 made j key n f y e s p =
@@ -31,7 +31,7 @@ made j key n f y e s p =
     rw (le-leb j 14 h, le-leb n (size j) d) (p h g))
 
 -- the record that was made, and n above its size
-pub too_many : (j key n : ℕ) (f : KeyedLayer) → keyed j key ≡ says f → f.size < n → 2 ^ 32 + 12 ≡ coded (layer_xors j key n)
+pub too_many : (j key n : ℕ) (f : KeyedLayer) → keyed j key ≡ result f → f.size < n → 2 ^ 32 + 12 ≡ coded (layer_xors j key n)
 unfolding layer_xors
 too_many j key n f e s =
     by_below 14 j

@@ -3,15 +3,15 @@
 use Rattle.std.specs.Prelude.{Bool, true, false, cond, ◌&&◌, List, [], ◌∷◌, ℕ, zero, suc, ◌+◌, ◌%◌, ◌^◌, leb}
 use Rattle.std.proofs.Math.Option.{Option, get_or}
 use Rattle.std.specs.Int.Bits.{bit_xor}
-use Rattle.lists.specs.Told.{Told, refusal, says}
+use Rattle.answers.specs.Answers.{Answer, refusal, result}
 use Rattle.layers.specs.Layer.{size, layer}
 use Rattle.hashes.specs.Hashes.{feed}
 use Rattle.hashes.specs.Calls.{limited}
 use Rattle.hashes.specs.Walks.{hashes_below, hashes_from}
 
 -- an answer as it is, refusal c as 2^32 + c: no number that a call answers is so large
-abbrev pub coded : Told ℕ → ℕ
-coded (says y) = y
+abbrev pub coded : Answer ℕ → ℕ
+coded (result y) = y
 coded (refusal c) = 2 ^ 32 + c
 
 -- 1 or 0
@@ -25,24 +25,24 @@ xors f zero = 0
 xors f (suc n) = bit_xor (xors f n) (f n)
 
 -- The outputs of a layer at 0..n, xored. 12: "a layer above 14, or a layer's input not below its size".
-unfoldable pub layer_xors : ℕ → ℕ → ℕ → Told ℕ
-layer_xors j key n = cond (leb j 14 && leb n (size j)) (says (xors (layer j key) n)) (refusal 12)
+unfoldable pub layer_xors : ℕ → ℕ → ℕ → Answer ℕ
+layer_xors j key n = cond (leb j 14 && leb n (size j)) (result (xors (layer j key) n)) (refusal 12)
 
 -- ---- hashes
 
 -- a hash as it is, none as 2^63, refusal c as 2^63 + c: every hash is below 2^63
-abbrev pub coded_hash : Told (Option ℕ) → ℕ
-coded_hash (says o) = get_or o (2 ^ 63)
+abbrev pub coded_hash : Answer (Option ℕ) → ℕ
+coded_hash (result o) = get_or o (2 ^ 63)
 coded_hash (refusal c) = 2 ^ 63 + c
 
 -- a number below 2^63 as it is, refusal c as 2^63 + c
-abbrev pub coded_number : Told ℕ → ℕ
-coded_number (says y) = y
+abbrev pub coded_number : Answer ℕ → ℕ
+coded_number (result y) = y
 coded_number (refusal c) = 2 ^ 63 + c
 
 -- 0 for a call with no number to say, refusal c as 2^63 + c
-abbrev pub coded_done : {A : Type 0} → Told A → ℕ
-coded_done (says x) = 0
+abbrev pub coded_done : {A : Type 0} → Answer A → ℕ
+coded_done (result x) = 0
 coded_done (refusal c) = 2 ^ 63 + c
 
 -- the stand-in of document 01 fed with all of a list, one after the other
@@ -55,8 +55,8 @@ unfoldable pub digest : List ℕ → ℕ
 digest xs = fed_all 0 xs % 2 ^ 63
 
 -- the whole falling walk from n, and the whole rising walk
-unfoldable pub falling_digest : ℕ → ℕ → Told ℕ
+unfoldable pub falling_digest : ℕ → ℕ → Answer ℕ
 falling_digest s n = limited n (digest (hashes_below s n))
 
-unfoldable pub rising_digest : ℕ → ℕ → Told ℕ
+unfoldable pub rising_digest : ℕ → ℕ → Answer ℕ
 rising_digest s n = limited n (digest (hashes_from s n))

@@ -1,7 +1,7 @@
 -- What a call leaves as it crosses to C and Rust: its answer as one number, and the lent lists after it.
 -- Assumes nothing.
 use Rattle.std.specs.Prelude.{cond, List, ℕ, ◌+◌, ◌^◌, ltb, length}
-use Rattle.lists.specs.Told.{Told, refusal, says}
+use Rattle.answers.specs.Answers.{Answer, refusal, result}
 use Rattle.lists.specs.Lists.{written}
 
 -- the answer, and the record's words and the list after it
@@ -34,6 +34,6 @@ unfoldable pub short_of : ℕ → ℕ → ℕ → ℕ
 short_of limit k n = cond (ltb limit n) 1 (cond (ltb n k) 3 4)
 
 -- the words after a call: of the record that is there after it; a refusal leaves them
-abbrev pub words_after : {A : Type 0} → List ℕ → Told A → List ℕ → List ℕ
-words_after ws (says x) rs = written rs ws
+abbrev pub words_after : {A : Type 0} → List ℕ → Answer A → List ℕ → List ℕ
+words_after ws (result x) rs = written rs ws
 words_after ws (refusal c) rs = ws

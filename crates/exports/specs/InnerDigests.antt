@@ -2,11 +2,11 @@
 -- Assumes nothing.
 use Rattle.std.specs.Prelude.{ℕ}
 use Rattle.std.proofs.Math.Option.{Option, none, some}
-use Rattle.lists.specs.Told.{Told, refusal, says}
+use Rattle.answers.specs.Answers.{Answer, refusal, result}
 use Rattle.hashes.specs.Hashes.{feed}
 
 -- a state fed with the hash, where one was said
-abbrev pub fed_with : ℕ → Told (Option ℕ) → ℕ
+abbrev pub fed_with : ℕ → Answer (Option ℕ) → ℕ
 fed_with d (refusal c) = d
-fed_with d (says none) = d
-fed_with d (says (some x)) = feed d x
+fed_with d (result none) = d
+fed_with d (result (some x)) = feed d x

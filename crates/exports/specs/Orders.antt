@@ -2,7 +2,7 @@
 -- Assumes nothing.
 use Rattle.std.specs.Prelude.{cond, List, ◌∷◌, map, ℕ, ◌+◌, ◌*◌, ◌/◌, ◌%◌, ◌^◌, ltb, take, get_or}
 use Rattle.std.proofs.Math.Option.{Option}
-use Rattle.lists.specs.Told.{Told, refusal, says}
+use Rattle.answers.specs.Answers.{Answer, refusal, result}
 use Rattle.lists.specs.Lists.{zero_to, written}
 use Rattle.orders.specs.declared.consistent_permutation.ConsistentPermutation.{ConsistentPermutation}
 use Rattle.orders.specs.Orders.{P}
@@ -18,15 +18,15 @@ abbrev pub order_as : List ℕ → ConsistentPermutation
 order_as ws = order_of (get_or ws 1 0 * 2 ^ 32 + get_or ws 0 0) (get_or ws 2 0) (map (λ i. get_or ws (3 + i) 0) (zero_to 15))
 
 -- a refusal leaves the words
-abbrev pub started_as : List ℕ → Told ConsistentPermutation → CrossedOne
-started_as ws (says o) = crossed_one 0 (written (order_words o) ws)
+abbrev pub started_as : List ℕ → Answer ConsistentPermutation → CrossedOne
+started_as ws (result o) = crossed_one 0 (written (order_words o) ws)
 started_as ws (refusal c) = crossed_one (2 ^ 63 + c) ws
 
 unfoldable pub new_order_crossed : ℕ → ℕ → List ℕ → CrossedOne
 new_order_crossed n key ws = enough_else (short_of (2 ^ 30) 0 n) 18 ws (λ a. crossed_one a ws) (started_as ws (new_call n key))
 
-abbrev pub stepped_as : List ℕ → Told (Option ℕ) → ConsistentPermutation → CrossedOne
-stepped_as ws (says o) w = crossed_one (coded_hash (says o)) (written (order_words w) ws)
+abbrev pub stepped_as : List ℕ → Answer (Option ℕ) → ConsistentPermutation → CrossedOne
+stepped_as ws (result o) w = crossed_one (coded_hash (result o)) (written (order_words w) ws)
 stepped_as ws (refusal c) w = crossed_one (2 ^ 63 + c) ws
 
 unfoldable pub next_order_crossed : List ℕ → CrossedOne
@@ -36,5 +36,5 @@ next_order_crossed ws =
 
 -- ---- the first numbers of an order, as one number; 1 for n above 2^30
 
-unfoldable pub order_digest : ℕ → ℕ → ℕ → Told ℕ
-order_digest n key count = cond (ltb (2 ^ 30) n) (refusal 1) (says (digest (take count (P key n))))
+unfoldable pub order_digest : ℕ → ℕ → ℕ → Answer ℕ
+order_digest n key count = cond (ltb (2 ^ 30) n) (refusal 1) (result (digest (take count (P key n))))

@@ -1,7 +1,7 @@
 -- Demand 3 of a round that a program in C or Rust keeps in seven words: its calls are calls as demand 3 has them.
 -- Assumes nothing.
 use Rattle.std.specs.Prelude.{◌≡◌, cond, List, [], ◌∷◌, ℕ, ◌+◌, ◌-◌, ◌*◌, ◌^◌, eqb, length, take, get_or}
-use Rattle.lists.specs.Told.{Told, refusal, says}
+use Rattle.answers.specs.Answers.{Answer, refusal, result}
 use Rattle.rounds.specs.Rounds.{State, state}
 use Rattle.rounds.specs.Ledgers.{Call, admit, join, withdraw, Sheet}
 use Rattle.rounds.specs.Plans.{sheets}
@@ -42,13 +42,13 @@ pub data AllMadeIn : Lent → List Call → List ℕ → Lent → Type 0 where
   next_in : {x y z : Lent} {c : Call} {a : ℕ} {cs : List Call} {as' : List ℕ} → MadeIn x c a y → AllMadeIn y cs as' z → AllMadeIn x (c ∷ cs) (a ∷ as') z
 
 -- a call's answer as one number
-abbrev pub number_of : Call → Told (List ℕ) → ℕ
+abbrev pub number_of : Call → Answer (List ℕ) → ℕ
 number_of c (refusal w) = 2 ^ 63 + w
-number_of admit (says vs) = cond (eqb (length vs) 0) (2 ^ 63) (get_or vs 0 0 * 2 ^ 32 + get_or vs 1 0)
-number_of join (says vs) = get_or vs 0 0
-number_of (withdraw x) (says vs) = 0
+number_of admit (result vs) = cond (eqb (length vs) 0) (2 ^ 63) (get_or vs 0 0 * 2 ^ 32 + get_or vs 1 0)
+number_of join (result vs) = get_or vs 0 0
+number_of (withdraw x) (result vs) = 0
 
-abbrev pub numbers_of : List Call → List (Told (List ℕ)) → List ℕ
+abbrev pub numbers_of : List Call → List (Answer (List ℕ)) → List ℕ
 numbers_of [] ws = []
 numbers_of (c ∷ cs) [] = []
 numbers_of (c ∷ cs) (w ∷ ws) = number_of c w ∷ numbers_of cs ws
@@ -56,8 +56,8 @@ numbers_of (c ∷ cs) (w ∷ ws) = number_of c w ∷ numbers_of cs ws
 -- ---- the plan after them
 
 -- what a plan's answer and its two lists say, of k locations
-abbrev pub plan_said : ℕ → ℕ → List ℕ → List ℕ → Told (List Sheet)
-plan_said k a ls ts = cond (eqb a 0) (says (sheets (take k ls) (take k ts))) (refusal (a - 2 ^ 63))
+abbrev pub plan_said : ℕ → ℕ → List ℕ → List ℕ → Answer (List Sheet)
+plan_said k a ls ts = cond (eqb a 0) (result (sheets (take k ls) (take k ts))) (refusal (a - 2 ^ 63))
 
 -- `perillajamb_round_plan` was called on x, with lists and scratch long enough: it answered a and left the two lists, by its promise
 pub record PlannedIn (x : Lent) (a : ℕ) (ls' ts' : List ℕ) : Type 0 where
@@ -73,7 +73,7 @@ pub record PlannedIn (x : Lent) (a : ℕ) (ls' ts' : List ℕ) : Type 0 where
 -- y. So all of demand 3 holds of it.
 pub record RoundHistory (key k n : ℕ) (x : Lent) (calls : List Call) (numbers : List ℕ) (y : Lent) : Type 0 where
   pub opens : Opens key k n (round_in x)
-  pub answers : List (Told (List ℕ))
+  pub answers : List (Answer (List ℕ))
   pub made : AllMade (round_in x) calls answers (round_in y)
   pub said : numbers ≡ numbers_of calls answers
   pub planned : (a : ℕ) (ls ts : List ℕ) → PlannedIn y a ls ts → PlanOf (round_in y) (plan_said (round_in y).round.k a ls ts)

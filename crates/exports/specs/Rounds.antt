@@ -1,7 +1,7 @@
 -- How a round crosses to C and Rust: its record as seven words, its answers as one number.
 -- Assumes nothing.
 use Rattle.std.specs.Prelude.{◌≡◌, ◌≢◌, List, [], ◌∷◌, map, ℕ, ◌+◌, ◌*◌, ◌/◌, ◌%◌, ◌^◌, ◌≤◌, get_or}
-use Rattle.lists.specs.Told.{Told, refusal, says}
+use Rattle.answers.specs.Answers.{Answer, refusal, result}
 use Rattle.lists.specs.Lists.{written}
 use Rattle.orders.specs.ReservoirCalls.{short_refusal}
 use Rattle.rounds.specs.declared.round.Round.{Round}
@@ -22,14 +22,14 @@ round_as ws = record { master_key = get_or ws 1 0 * 2 ^ 32 + get_or ws 0 0; k = 
 -- ---- open
 
 -- a record is written only where there is one
-abbrev pub words_opened : List ℕ → Told Round → List ℕ
-words_opened ws (says r) = written (round_words r) ws
+abbrev pub words_opened : List ℕ → Answer Round → List ℕ
+words_opened ws (result r) = written (round_words r) ws
 words_opened ws (refusal w) = ws
 
 unfoldable pub open_crossed : ℕ → ℕ → ℕ → List ℕ → List ℕ → Crossed
 open_crossed key k n l ws =
     let o = open_call key k n l in
-    enough_else (short_refusal k n) 7 ws (λ a. crossed a ws l) (crossed (coded_done o.told) (words_opened ws o.told) o.list)
+    enough_else (short_refusal k n) 7 ws (λ a. crossed a ws l) (crossed (coded_done o.answer) (words_opened ws o.answer) o.list)
 
 -- ---- admit, join and withdraw
 
@@ -44,8 +44,8 @@ abbrev pub crossed_round : ℕ → List ℕ → List ℕ → List ℕ → Crosse
 crossed_round a ws l t = record { answer = a; words = ws; list = l; table = t }
 
 -- what a call leaves whose answer is coded so
-abbrev pub left_as : {A : Type 0} → (Told A → ℕ) → List ℕ → After A → CrossedRound
-left_as code ws a = crossed_round (code a.told) (words_after ws a.told (round_words a.state.round)) a.state.list a.state.table
+abbrev pub left_as : {A : Type 0} → (Answer A → ℕ) → List ℕ → After A → CrossedRound
+left_as code ws a = crossed_round (code a.answer) (words_after ws a.answer (round_words a.state.round)) a.state.list a.state.table
 
 -- the location in times 2^32 plus the one out, none as 2^63
 unfoldable pub admit_crossed : List ℕ → List ℕ → List ℕ → CrossedRound
@@ -72,7 +72,7 @@ crossed_plan a ls ts = record { answer = a; locations = ls; terminals = ts }
 unfoldable pub plan_crossed : List ℕ → List ℕ → List ℕ → List ℕ → List ℕ → ℕ → CrossedPlan
 plan_crossed ws l t ls ts places =
     let p = plan_call (state (round_as ws) l t) ls ts places in
-    enough 7 ws (λ a. crossed_plan a ls ts) (crossed_plan (coded_done p.told) p.locations p.terminals)
+    enough 7 ws (λ a. crossed_plan a ls ts) (crossed_plan (coded_done p.answer) p.locations p.terminals)
 
 unfoldable pub fits_crossed : List ℕ → List ℕ → List ℕ → ℕ
 fits_crossed ws l t = enough 7 ws (λ a. a) (truth (fitting (state (round_as ws) l t)))
@@ -94,7 +94,7 @@ crossed_replay a l t ws ls ts = record { answer = a; list = l; table = t; answer
 unfoldable pub replay_crossed : ℕ → ℕ → ℕ → List ℕ → List ℕ → List ℕ → List ℕ → List ℕ → List ℕ → ℕ → CrossedReplay
 replay_crossed key k n codes l t ws ls ts places =
     let a = replay_call key k n codes l t ws ls ts places in
-    crossed_replay (coded_done a.told) a.list a.table a.answers a.locations a.terminals
+    crossed_replay (coded_done a.answer) a.list a.table a.answers a.locations a.terminals
 
 -- a refusal leaves the scratch, and so does a replay whose plan was refused: its answer stands behind those of c calls
 abbrev pub ReplayScratchAs : ℕ → ℕ → List ℕ → List ℕ → List ℕ → Type 0

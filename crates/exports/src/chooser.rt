@@ -1,7 +1,7 @@
 // Choosers for C and Rust. The record is three words that the caller keeps: the state, n, k.
 ghost use Rattle.std.specs.Prelude.{◌≡◌, cond, ◌≤◌, length};
 ghost use Rattle.lists.specs.Lists.{written};
-ghost use Rattle.answers.specs.Refusals.{told};
+ghost use Rattle.answers.specs.Refusals.{answer_of};
 ghost use Rattle.exports.specs.Crossings.{crossed, crossed_one};
 ghost use Rattle.exports.specs.Chooser.{chooser_words, chooser_as, words_made, new_crossed, new_with_k_crossed, grow_crossed, next_crossed, shrink_crossed, fits_crossed};
 

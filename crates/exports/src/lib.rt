@@ -17,7 +17,7 @@ ghost use Rattle.layers.specs.Layer.{layer};
 ghost use Rattle.layers.specs.KeyedLayers.{keyed_layer};
 ghost use Rattle.hashes.specs.Hashes.{feed};
 ghost use Rattle.hashes.specs.Calls.{prev_call, next_call};
-ghost use Rattle.answers.specs.Refusals.{told};
+ghost use Rattle.answers.specs.Refusals.{answer_of};
 ghost use Rattle.hashes.specs.Walks.{fall, rise};
 ghost use Rattle.exports.specs.Coded.{coded, xors, layer_xors, coded_hash, coded_number, falling_digest, rising_digest};
 
@@ -51,7 +51,7 @@ pub fn perillajamb_layer_apply(layer: u32, key: u64, x: u32) -> u64
 
 // An output as it is, refusal c as 2^32 + c.
 fn coded_output(said: Result<u32, Refusal>) -> u64
-    ensures { result ≡ coded (told said) }
+    ensures { result ≡ coded (answer_of said) }
 {
     match said {
         Ok(y) => u64::from(y),

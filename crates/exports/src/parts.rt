@@ -1,8 +1,8 @@
 // Answers as the one number that crosses, and the numbers of two words. Each kind of value has a `match` of its own: one over a
 // closure that gives the value's number would be called in as many lines, and its promise would speak of the closure.
 ghost use Rattle.std.specs.Prelude.{◌≡◌, ◌+◌, ◌*◌, ◌/◌, ◌%◌, ◌^◌, ◌<◌, OnOk};
-ghost use Rattle.answers.specs.Refusals.{number, told, told_option};
-ghost use Rattle.orders.specs.ReservoirCalls.{told_exchange};
+ghost use Rattle.answers.specs.Refusals.{number, answer_of, answer_of_option};
+ghost use Rattle.orders.specs.ReservoirCalls.{answer_of_exchange};
 ghost use Rattle.exports.specs.Coded.{truth, coded_done, coded_number, coded_hash};
 ghost use Rattle.exports.specs.Crossings.{short_of};
 ghost use Rattle.exports.specs.Reservoirs.{coded_exchange};
@@ -22,7 +22,7 @@ pub(crate) fn refused(why: Refusal) -> u64
 
 // A call with nothing to say but that it was done.
 pub(crate) fn done(said: Result<(), Refusal>) -> u64
-    ensures { result ≡ coded_done (told said) }
+    ensures { result ≡ coded_done (answer_of said) }
 {
     match said {
         Ok(()) => 0,
@@ -31,7 +31,7 @@ pub(crate) fn done(said: Result<(), Refusal>) -> u64
 }
 
 pub(crate) fn wide_number(said: Result<u64, Refusal>) -> u64
-    ensures { result ≡ coded_number (told said) }
+    ensures { result ≡ coded_number (answer_of said) }
 {
     match said {
         Ok(x) => x,
@@ -41,7 +41,7 @@ pub(crate) fn wide_number(said: Result<u64, Refusal>) -> u64
 
 // The same of a number of 32 bits. Over `Into<u64>` the promise would have to speak of what the bound gives.
 pub(crate) fn number(said: Result<u32, Refusal>) -> u64
-    ensures value { result ≡ coded_number (told said) }
+    ensures value { result ≡ coded_number (answer_of said) }
     ensures no_refusal { OnOk said (result < 2 ^ 32) }
 {
     match said {
@@ -51,7 +51,7 @@ pub(crate) fn number(said: Result<u32, Refusal>) -> u64
 }
 
 pub(crate) fn hash(said: Result<Option<u64>, Refusal>) -> u64
-    ensures { result ≡ coded_hash (told_option said) }
+    ensures { result ≡ coded_hash (answer_of_option said) }
 {
     match said {
         Ok(Some(x)) => x,
@@ -62,7 +62,7 @@ pub(crate) fn hash(said: Result<Option<u64>, Refusal>) -> u64
 
 // The same of a number of 32 bits.
 pub(crate) fn number_or_none(said: Result<Option<u32>, Refusal>) -> u64
-    ensures { result ≡ coded_hash (told_option said) }
+    ensures { result ≡ coded_hash (answer_of_option said) }
 {
     match said {
         Ok(Some(x)) => u64::from(x),
@@ -72,7 +72,7 @@ pub(crate) fn number_or_none(said: Result<Option<u32>, Refusal>) -> u64
 }
 
 pub(crate) fn yes_or_no(said: Result<bool, Refusal>) -> u64
-    ensures { result ≡ coded_truth (told said) }
+    ensures { result ≡ coded_truth (answer_of said) }
 {
     match said {
         Ok(b) => yes(b),
@@ -81,7 +81,7 @@ pub(crate) fn yes_or_no(said: Result<bool, Refusal>) -> u64
 }
 
 pub(crate) fn exchange(said: Result<Option<Exchange>, Refusal>) -> u64
-    ensures { result ≡ coded_exchange (told_exchange said) }
+    ensures { result ≡ coded_exchange (answer_of_exchange said) }
 {
     match said {
         Ok(Some(e)) => joined(e.leaves, e.enters),

@@ -3,7 +3,7 @@
 ghost use Rattle.std.specs.Prelude.{◌≡◌, ◌^◌, ◌≤◌, take};
 ghost use Rattle.lists.specs.Lists.{written};
 ghost use Rattle.orders.specs.Orders.{P};
-ghost use Rattle.answers.specs.Refusals.{told_option};
+ghost use Rattle.answers.specs.Refusals.{answer_of_option};
 ghost use Rattle.exports.specs.Coded.{coded_number, fed_all};
 ghost use Rattle.exports.specs.Crossings.{crossed_one};
 ghost use Rattle.exports.specs.InnerDigests.{fed_with};
@@ -56,7 +56,7 @@ pub fn perillajamb_order_new(n: u32, key: u64, ws: &mut [u32]) -> u64
 
 // A state fed with the number that was given.
 fn fed_with(d: u64, said: Result<Option<u32>, Refusal>) -> u64
-    ensures { result ≡ fed_with d (told_option said) }
+    ensures { result ≡ fed_with d (answer_of_option said) }
 {
     match said {
         Ok(Some(y)) => hashes::seq_builder(d, u64::from(y)),

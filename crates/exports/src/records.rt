@@ -1,6 +1,6 @@
 // Records that C and Rust keep in words, and what a call writes to them.
 ghost use Rattle.std.specs.Prelude.{◌≡◌, ℕ, List, cond, ◌≤◌, length};
-ghost use Rattle.answers.specs.Refusals.{told};
+ghost use Rattle.answers.specs.Refusals.{answer_of};
 ghost use Rattle.exports.specs.Coded.{coded_done};
 ghost use Rattle.exports.specs.InnerRecords.{made_over};
 
@@ -43,8 +43,8 @@ pub(crate) fn keep<R: Record>(accepted: bool, r: R, words: &mut [R::Word])
 // The record that was made goes to the words, a refusal to the answer.
 pub(crate) fn store_made<R: Record>(made: Result<R, Refusal>, words: &mut [R::Word]) -> u64
     requires { R.count ≤ length words.old }
-    ensures answer { result ≡ coded_done (told made) }
-    ensures made { words.new ≡ made_over R.over words.old (told made) }
+    ensures answer { result ≡ coded_done (answer_of made) }
+    ensures made { words.new ≡ made_over R.over words.old (answer_of made) }
 {
     match made {
         Ok(r) => {

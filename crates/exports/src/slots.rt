@@ -1,6 +1,6 @@
 // Slot maps for C and Rust. The map is its slot count, which the caller keeps beside the table.
 ghost use Rattle.std.specs.Prelude.{◌≡◌, length};
-ghost use Rattle.lists.specs.Told.{says};
+ghost use Rattle.answers.specs.Answers as Answers;
 ghost use Rattle.choosers.specs.Slots.{state_of};
 ghost use Rattle.choosers.specs.SlotCalls.{map_of, fitting, len_call, is_empty_call, is_active_call, look_up, get_call, ScratchFree};
 ghost use Rattle.exports.specs.Coded.{truth, coded_number, coded_hash};
@@ -71,7 +71,7 @@ pub fn perillajamb_slots_get(total: u32, table: &[u8], state: u64, scratch: &mut
 
 // The same without its tests, for many lookups after one test.
 pub fn perillajamb_first_active(total: u32, table: &[u8], state: u64, scratch: &mut [u64]) -> u64
-    ensures answer { result ≡ coded_hash (says (look_up total table.now state (length scratch.old))) }
+    ensures answer { result ≡ coded_hash (Answers.result (look_up total table.now state (length scratch.old))) }
     ensures scratch { ScratchFree scratch.old scratch.new }
 {
     let found = node_map::first_active(total, table, state, scratch);

@@ -1,6 +1,6 @@
 // Slot maps.
 ghost use Rattle.std.specs.Prelude.{◌≡◌, length};
-ghost use Rattle.lists.specs.Told.{says};
+ghost use Rattle.answers.specs.Answers as Answers;
 ghost use Rattle.choosers.specs.Slots.{state_of};
 ghost use Rattle.choosers.specs.SlotCalls.{map_of, fitting, len_call, is_empty_call, is_active_call, look_up, get_call, ScratchFree};
 ghost use Rattle.exports.specs.Coded.{truth, coded_number, coded_hash};
@@ -77,7 +77,7 @@ pub extern "C" fn perillajamb_first_active(
     state: u64,
     scratch: &mut [u64],
 ) -> u64
-    ensures answer { result ≡ coded_hash (says (look_up total table.now state (length scratch.old))) }
+    ensures answer { result ≡ coded_hash (Answers.result (look_up total table.now state (length scratch.old))) }
     ensures scratch { ScratchFree scratch.old scratch.new }
 {
     exports::slots::perillajamb_first_active(total, table, state, scratch)

@@ -7,10 +7,10 @@ use Prim.Native.Nat.{ℕ, ◌+◌, ◌^◌, ◌≤◌}
 use native.Mathlib.Omega.{arith}
 use native.Mathlib.Numerals.{add-one}
 use Rattle.std.specs.Prelude.{◌↔◌}
-use Rattle.lists.specs.Told.{Told, says}
+use Rattle.answers.specs.Answers.{Answer, result}
 use Rattle.lists.specs.Lists.{not_below}
 use Rattle.lists.proofs.Extremes.{by_min, picked_within}
-use Rattle.lists.proofs.Tolds.{said_same}
+use Rattle.answers.proofs.AnswerLaws.{said_same}
 use Rattle.hashes.specs.declared.ConsistentHashIterator.{ConsistentHashIterator}
 use Rattle.hashes.specs.Hashes.{hashes, is_hash, prev}
 use Rattle.hashes.specs.Next.{smallest_from}
@@ -23,9 +23,9 @@ use Rattle.hashes.proofs.CallLaws.{limited_in}
 use Rattle.hashes.proofs.WalkLaws.{smallest_here}
 
 -- an answer that gives n exactly if a test passes
-exactly : {test : Bool} {n : ℕ} (t : Told (Option ℕ)) (o : Option ℕ) → t ≡ says o → (test ≡ true → o ≡ some n) → (o ≡ some n → test ≡ true)
-    → (test ≡ true) ↔ (t ≡ says (some n))
-exactly t o e there back = (λ y. e ∙ ap says (there y), λ g. back (said_same _ _ (sym e ∙ g)))
+exactly : {test : Bool} {n : ℕ} (t : Answer (Option ℕ)) (o : Option ℕ) → t ≡ result o → (test ≡ true → o ≡ some n) → (o ≡ some n → test ≡ true)
+    → (test ≡ true) ↔ (t ≡ result (some n))
+exactly t o e there back = (λ y. e ∙ ap result (there y), λ g. back (said_same _ _ (sym e ∙ g)))
 
 smallest_back : (s n : ℕ) → smallest_from s n ≡ some n → is_hash s n ≡ true
 unfolding smallest_from
@@ -41,11 +41,11 @@ prev_back s n e =
     rw same at (prev_is_hash s (n + 1) (omega arith))
 
 -- what a step of the rising walk says is what it found
-said_found : (w : ConsistentHashIterator) (o : Option ℕ) → (go_on_above w o).said ≡ says o
+said_found : (w : ConsistentHashIterator) (o : Option ℕ) → (go_on_above w o).said ≡ result o
 said_found w none = refl
 said_found w (some x) = refl
 
-begins_is : (s n : ℕ) → n ≤ 2 ^ 62 → begins (rising_from n s) ≡ says (smallest_from s n)
+begins_is : (s n : ℕ) → n ≤ 2 ^ 62 → begins (rising_from n s) ≡ result (smallest_from s n)
 unfolding rise
 begins_is s n h = ap begins (limited_in n _ h) ∙ said_found (record { state = s; low = n }) (smallest_from s n)
 

@@ -4,14 +4,14 @@ use mathlib.Core.Path.{◌≡◌}
 use Prim.Native.Nat.{ℕ, ◌^◌, ◌≤◌, ◌<◌}
 use native.Mathlib.Omega.{arith}
 use borrow.Author.Tests.{lt-ltb, le-ltb}
-use Rattle.lists.specs.Told.{refusal, says}
+use Rattle.answers.specs.Answers.{refusal, result}
 use Rattle.lists.proofs.Tests.{by_below}
 use Rattle.hashes.specs.declared.ConsistentHashRevIterator.{ConsistentHashRevIterator}
 use Rattle.hashes.specs.Hashes.{prev}
 use Rattle.hashes.specs.Calls.{limited}
 use Rattle.hashes.specs.Walks.{go_on_below, fall}
 
-pub limited_in : {A : Type 0} (n : ℕ) (a : A) → n ≤ 2 ^ 62 → limited n a ≡ says a
+pub limited_in : {A : Type 0} (n : ℕ) (a : A) → n ≤ 2 ^ 62 → limited n a ≡ result a
 unfolding limited
 limited_in n a h = rw (le-ltb (2 ^ 62) n h)
 
@@ -20,7 +20,7 @@ unfolding limited
 limited_out n a h = rw (lt-ltb (2 ^ 62) n h)
 
 -- and back: which it was
-pub limited_says : {A : Type 0} (n : ℕ) (a b : A) → limited n a ≡ says b → (n ≤ 2 ^ 62) × (b ≡ a)
+pub limited_says : {A : Type 0} (n : ℕ) (a b : A) → limited n a ≡ result b → (n ≤ 2 ^ 62) × (b ≡ a)
 limited_says n a b e =
     by_below (2 ^ 62) n
     (λ h. let q = limited_out n a h in let z : ◌≡◌ {A = ℕ} 0 1 = cc in absurd (omega arith))

@@ -7,8 +7,8 @@ use mathlib.Core.Option.{Option, none, some}
 use Prim.Native.Nat.{ℕ, ◌^◌}
 use lib.Dec.{ltb}
 use Rattle.lists.specs.Lists.{same, has}
-use Rattle.lists.specs.Steps.{Step}
-use Rattle.lists.specs.Refusing.{Among, Spares}
+use Rattle.answers.specs.Steps.{Step}
+use Rattle.answers.specs.Refusing.{Among, Spares}
 use Rattle.lists.proofs.Tests.{by_cond}
 use Rattle.hashes.specs.declared.ConsistentHashRevIterator.{ConsistentHashRevIterator}
 use Rattle.hashes.specs.Hashes.{prev}

@@ -8,14 +8,14 @@ use Prim.Native.Nat.{ℕ, zero, suc, ◌+◌, ◌-◌, ◌^◌, ◌≤◌, ◌<�
 use native.Mathlib.Omega.{arith}
 use native.Mathlib.Numerals.{add-one}
 use lib.Dec.{ltb}
-use Rattle.lists.specs.Told.{Told, says}
-use Rattle.lists.specs.Steps.{Step, answers, one_by_one}
+use Rattle.answers.specs.Answers.{Answer, result}
+use Rattle.answers.specs.Steps.{Step, answers, one_by_one}
 use Rattle.lists.specs.Lists.{keep, not_below, occurrences, from}
 use Rattle.lists.proofs.Tests.{not_below_yes, not_below_no, by_test, by_below}
 use Rattle.lists.proofs.Members.{occurrences_cons, occurrences_keep_yes, keep_passes, keep_agree, keep_none}
 use Rattle.lists.proofs.Extremes.{by_min, pick_is}
-use Rattle.lists.proofs.Tolds.{not_said, said_same}
-use Rattle.lists.proofs.Turns.{Turn, ended, gave, all_answers}
+use Rattle.answers.proofs.AnswerLaws.{not_said, said_same}
+use Rattle.answers.proofs.Turns.{Turn, ended, gave, all_answers}
 use Rattle.hashes.specs.declared.ConsistentHashRevIterator.{ConsistentHashRevIterator}
 use Rattle.hashes.specs.declared.ConsistentHashIterator.{ConsistentHashIterator}
 use Rattle.hashes.specs.Hashes.{buckets, hashes, is_hash, prev}
@@ -27,7 +27,7 @@ use Rattle.hashes.proofs.PrevLaws.{prev_none, prev_is}
 use Rattle.hashes.proofs.LargestLaws.{hash_occurrences, no_hash_occurrences, prev_below, prev_suc_yes, prev_suc_no}
 use Rattle.hashes.proofs.CallLaws.{fall_in}
 
-abbrev said_of : {W : Type 0} → Step W → Told (Option ℕ)
+abbrev said_of : {W : Type 0} → Step W → Answer (Option ℕ)
 said_of t = t.said
 
 abbrev walk_of : {W : Type 0} → Step W → W
@@ -149,7 +149,7 @@ pub rising_walk : (k s m : ℕ) → answers rise k (record { state = s; low = m 
 rising_walk k s m = all_answers rise_turn k (record { state = s; low = m }) tt
 
 -- from `new n`: every hash from n up
-pub rising_walk_new : (k n s : ℕ) (w : ConsistentHashIterator) → rising_from n s ≡ says w → answers rise k w ≡ one_by_one k (hashes_from s n)
+pub rising_walk_new : (k n s : ℕ) (w : ConsistentHashIterator) → rising_from n s ≡ result w → answers rise k w ≡ one_by_one k (hashes_from s n)
 unfolding limited
 rising_walk_new k n s w e =
     by_test (ltb (2 ^ 62) n)

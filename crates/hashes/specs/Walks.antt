@@ -2,8 +2,8 @@
 -- Assumes nothing.
 use Rattle.std.specs.Prelude.{cond, List, ℕ, ◌+◌, ◌-◌, ◌^◌, ltb}
 use Rattle.std.proofs.Math.Option.{Option, none, some}
-use Rattle.lists.specs.Told.{Told, refusal, says}
-use Rattle.lists.specs.Steps.{Step}
+use Rattle.answers.specs.Answers.{Answer, refusal, result}
+use Rattle.answers.specs.Steps.{Step}
 use Rattle.lists.specs.Lists.{keep, from, down}
 use Rattle.hashes.specs.declared.ConsistentHashRevIterator.{ConsistentHashRevIterator}
 use Rattle.hashes.specs.declared.ConsistentHashIterator.{ConsistentHashIterator}
@@ -14,13 +14,13 @@ use Rattle.hashes.specs.Calls.{limited}
 -- ---- falling
 
 -- the walk from n down
-abbrev pub falling_from : ℕ → ℕ → Told ConsistentHashRevIterator
+abbrev pub falling_from : ℕ → ℕ → Answer ConsistentHashRevIterator
 falling_from n s = limited n (record { state = s; n = n })
 
 -- after a hash the walk goes on below it; where there is none it stays
 abbrev pub go_on_below : ConsistentHashRevIterator → Option ℕ → Step ConsistentHashRevIterator
-go_on_below w none = record { said = says none; walk = w }
-go_on_below w (some x) = record { said = says (some x); walk = record { state = w.state; n = x } }
+go_on_below w none = record { said = result none; walk = w }
+go_on_below w (some x) = record { said = result (some x); walk = record { state = w.state; n = x } }
 
 -- any walk: the largest hash below its n. 1 for an n above 2^62.
 unfoldable pub fall : ConsistentHashRevIterator → Step ConsistentHashRevIterator
@@ -33,13 +33,13 @@ hashes_below s n = keep (is_hash s) (down n)
 -- ---- rising
 
 -- the walk from n up: it starts at n itself
-abbrev pub rising_from : ℕ → ℕ → Told ConsistentHashIterator
+abbrev pub rising_from : ℕ → ℕ → Answer ConsistentHashIterator
 rising_from n s = limited n (record { state = s; low = n })
 
 -- after a hash the walk goes on above it; where there is none it stays
 abbrev pub go_on_above : ConsistentHashIterator → Option ℕ → Step ConsistentHashIterator
-go_on_above w none = record { said = says none; walk = w }
-go_on_above w (some x) = record { said = says (some x); walk = record { state = w.state; low = x + 1 } }
+go_on_above w none = record { said = result none; walk = w }
+go_on_above w (some x) = record { said = result (some x); walk = record { state = w.state; low = x + 1 } }
 
 -- any walk: the smallest hash of its `low` or more
 unfoldable pub rise : ConsistentHashIterator → Step ConsistentHashIterator

@@ -6,9 +6,9 @@ mod buckets;
 mod search;
 
 ghost use Rattle.std.specs.Prelude.{◌≡◌};
-ghost use Rattle.lists.specs.Told.{says};
-ghost use Rattle.lists.specs.Steps.{stepped_to};
-ghost use Rattle.answers.specs.Refusals.{told, optional, told_option};
+ghost use Rattle.answers.specs.Answers as Answers;
+ghost use Rattle.answers.specs.Steps.{stepped_to};
+ghost use Rattle.answers.specs.Refusals.{answer_of, optional, answer_of_option};
 ghost use Rattle.hashes.specs.Hashes.{feed};
 ghost use Rattle.hashes.specs.Calls.{prev_call, next_call};
 ghost use Rattle.hashes.specs.Walks.{falling_from, fall, rising_from, rise};
@@ -40,7 +40,7 @@ impl ConsistentHasher {
 
     // The largest hash below n; refusal 1 for an n above the limit.
     pub fn prev(self, n: u64) -> Result<Option<u64>, Refusal>
-        ensures { told_option result ≡ prev_call self.state n }
+        ensures { answer_of_option result ≡ prev_call self.state n }
     {
         if Self::N_LIMIT < n {
             return Err(Refusal::NAboveLimit);
@@ -53,14 +53,14 @@ impl ConsistentHasher {
 
     // The same. In the original it uses the hasher up.
     pub fn into_prev(self, n: u64) -> Result<Option<u64>, Refusal>
-        ensures { told_option result ≡ prev_call self.state n }
+        ensures { answer_of_option result ≡ prev_call self.state n }
     {
         self.prev(n)
     }
 
     // The smallest hash of n or more, with which the rising walk from n begins; refusal 1 for an n above the limit.
     pub fn next(self, n: u64) -> Result<Option<u64>, Refusal>
-        ensures { told_option result ≡ next_call self.state n }
+        ensures { answer_of_option result ≡ next_call self.state n }
     {
         if Self::N_LIMIT < n {
             return Err(Refusal::NAboveLimit);
@@ -82,7 +82,7 @@ impl ConsistentHashRevIterator {
 
     // The walk from n down; refusal 1 for an n above the limit.
     pub fn new(n: u64, state: u64) -> Result<ConsistentHashRevIterator, Refusal>
-        ensures { told result ≡ falling_from n state }
+        ensures { answer_of result ≡ falling_from n state }
     {
         if Self::N_LIMIT < n {
             return Err(Refusal::NAboveLimit);
@@ -92,7 +92,7 @@ impl ConsistentHashRevIterator {
 
     // The next hash; refusal 1 for a walk whose n is above the limit.
     pub fn next(&mut self) -> Result<Option<u64>, Refusal>
-        ensures { stepped_to (told_option result) self.new ≡ fall self.old }
+        ensures { stepped_to (answer_of_option result) self.new ≡ fall self.old }
     {
         if Self::N_LIMIT < self.n {
             return Err(Refusal::NAboveLimit);
@@ -119,7 +119,7 @@ impl ConsistentHashIterator {
 
     // The walk from n up, n itself included; refusal 1 for an n above the limit.
     pub fn new(n: u64, state: u64) -> Result<ConsistentHashIterator, Refusal>
-        ensures { told result ≡ rising_from n state }
+        ensures { answer_of result ≡ rising_from n state }
     {
         if Self::N_LIMIT < n {
             return Err(Refusal::NAboveLimit);
@@ -129,7 +129,7 @@ impl ConsistentHashIterator {
 
     // The next hash.
     pub fn next(&mut self) -> Option<u64>
-        ensures { stepped_to (says (optional result)) self.new ≡ rise self.old }
+        ensures { stepped_to (Answers.result (optional result)) self.new ≡ rise self.old }
     {
         let x = search::smallest_from(self.state, self.low)?;
         self.low = x + 1;

@@ -2,16 +2,16 @@
 -- Assumes nothing.
 use Rattle.std.proofs.Common.{◌≡◌, ℕ, ◌<◌, ◌≤◌, lt-ltb, le-leb}
 use borrow.Author.Tests.{lt-leb}
-use Rattle.lists.specs.Told.{refusal, says}
+use Rattle.answers.specs.Answers.{refusal, result}
 use Rattle.layers.specs.Layer.{size, layer}
 use Rattle.layers.specs.Calls.{layer_apply}
 use Rattle.layers.specs.KeyedLayers.{keyed_layer, keyed}
 
-pub apply_in : (j key x : ℕ) → j ≤ 14 → x < size j → layer_apply j key x ≡ says (layer j key x)
+pub apply_in : (j key x : ℕ) → j ≤ 14 → x < size j → layer_apply j key x ≡ result (layer j key x)
 unfolding layer_apply
 apply_in j key x h p = rw (le-leb j 14 h, lt-ltb x (size j) p)
 
-pub keyed_in : (j key : ℕ) → j ≤ 14 → keyed j key ≡ says (keyed_layer j key)
+pub keyed_in : (j key : ℕ) → j ≤ 14 → keyed j key ≡ result (keyed_layer j key)
 unfolding keyed
 keyed_in j key h = rw (le-leb j 14 h)
 

@@ -4,7 +4,7 @@ use mathlib.Core.Path.{refl}
 use Prim.Native.Nat.{ℕ}
 use lib.Dec.{leb, ltb}
 use Rattle.lists.specs.Lists.{same, has}
-use Rattle.lists.specs.Refusing.{Among}
+use Rattle.answers.specs.Refusing.{Among}
 use Rattle.lists.proofs.Tests.{by_cond}
 use Rattle.layers.specs.Layer.{size}
 use Rattle.layers.specs.Calls.{layer_apply}

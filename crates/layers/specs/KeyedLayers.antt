@@ -1,7 +1,7 @@
 -- A layer under a key whose numbers and first round keys were worked out once, to be applied many times.
 -- Assumes nothing.
 use Rattle.std.specs.Prelude.{◌≡◌, ℕ, ◌+◌, ◌-◌, ◌*◌, ◌/◌, ◌%◌, ◌^◌, ◌≤◌, cond, bit_or, bit_xor, nat_le}
-use Rattle.lists.specs.Told.{Told, refusal, says}
+use Rattle.answers.specs.Answers.{Answer, refusal, result}
 use Rattle.layers.specs.declared.RoundKey.{RoundKey}
 use Rattle.layers.specs.declared.KeyedLayer.{KeyedLayer}
 use Rattle.layers.specs.Layer.{size, round_count, start, next_key, rounds, over, layer}
@@ -36,8 +36,8 @@ keyed_layer j key =
     }
 
 -- 12: "a layer above 14"
-unfoldable pub keyed : ℕ → ℕ → Told KeyedLayer
-keyed j key = cond (nat_le j 14) (says (keyed_layer j key)) (refusal 12)
+unfoldable pub keyed : ℕ → ℕ → Answer KeyedLayer
+keyed j key = cond (nat_le j 14) (result (keyed_layer j key)) (refusal 12)
 
 -- the new r of a round, by what it takes of its K
 unfoldable pub new_right : ℕ → ℕ → ℕ → ℕ → ℕ → ℕ

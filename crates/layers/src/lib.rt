@@ -5,7 +5,7 @@ mod feistel;
 mod formulas;
 
 ghost use Rattle.std.specs.Prelude.{◌≡◌, ◌<◌};
-ghost use Rattle.answers.specs.Refusals.{told};
+ghost use Rattle.answers.specs.Refusals.{answer_of};
 ghost use Rattle.layers.specs.Calls.{layer_apply};
 ghost use Rattle.layers.specs.KeyedLayers.{round_key, keyed_layer, keyed, applied, LayerAt};
 
@@ -72,7 +72,7 @@ impl KeyedLayer {
 
     // A layer under a key; refusal 12 where there is no such layer.
     pub fn new(layer: u32, key: u64) -> Result<KeyedLayer, Refusal>
-        ensures { told result ≡ keyed layer key }
+        ensures { answer_of result ≡ keyed layer key }
     {
         if Self::LAYER_LIMIT < layer {
             return Err(Refusal::Misfit);
@@ -106,7 +106,7 @@ impl KeyedLayer {
 // memory.
 #[inline]
 pub fn layer_apply(layer: u32, key: u64, x: u32) -> Result<u32, Refusal>
-    ensures { told result ≡ layer_apply layer key x }
+    ensures { answer_of result ≡ layer_apply layer key x }
 {
     if KeyedLayer::LAYER_LIMIT < layer {
         return Err(Refusal::Misfit);

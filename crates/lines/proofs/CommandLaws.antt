@@ -7,10 +7,10 @@ use mathlib.Core.List.{List, [], ◌∷◌}
 use mathlib.Core.Option.{none, some}
 use Rattle.std.specs.Prelude.{Option, Some, None, Result, Ok, Err}
 use Rattle.std.specs.Option.{ok_or}
-use Rattle.answers.specs.Refusals.{told, optional}
+use Rattle.answers.specs.Refusals.{answer_of, optional}
 use Rattle.answers.specs.declared.Refusal.TheVariants.{Misfit}
 use Rattle.std.specs.Result.{OkIff, result_ok}
-use Rattle.lines.specs.InnerLines.{told_form}
+use Rattle.lines.specs.InnerLines.{answer_of_form}
 use Prim.Native.Nat.{ℕ, ◌+◌, ◌-◌, ◌*◌, ◌^◌, ◌≤◌, ◌<◌}
 use native.Mathlib.Nat.{pow-le-pow_right, mul-le-mul_left}
 use native.Mathlib.Numerals.{add-one}
@@ -24,7 +24,7 @@ use Rattle.std.specs.Cmp.Lexicographic.{pointwise}
 use Rattle.std.specs.Char.{digit_value}
 use Rattle.std.proofs.lemmas.Bool.Decides.{nat_tests}
 use Rattle.std.proofs.lemmas.Slice.Eq.{compares_Decides, HasBytesAt, text_from_reads}
-use Rattle.lists.specs.Told.{refusal, says}
+use Rattle.answers.specs.Answers.{refusal, result}
 use Rattle.lists.proofs.Tests.{by_test, by_below}
 use Rattle.lines.specs.declared.commands.Command.{Command}
 use Rattle.lines.specs.declared.commands.Command.TheVariants.{Admit, Join, Plan}
@@ -56,15 +56,15 @@ alike_not w p self n =
     (λ m. m)
 
 module _ (w : List ℕ) where
-  pub alone_admit : length w ≡ 5 → HasBytesAt w 0 admit_word → says Admit ≡ word_alone w
+  pub alone_admit : length w ≡ 5 → HasBytesAt w 0 admit_word → result Admit ≡ word_alone w
   unfolding word_alone
   alone_admit n b = rw (text_from_reads w admit_word n b)
 
-  pub alone_join : length w ≡ 4 → HasBytesAt w 0 join_word → says Join ≡ word_alone w
+  pub alone_join : length w ≡ 4 → HasBytesAt w 0 join_word → result Join ≡ word_alone w
   unfolding word_alone
   alone_join n b = rw (text_from_reads w join_word n b)
 
-  pub alone_plan : length w ≡ 4 → HasBytesAt w 0 plan_word → says Plan ≡ word_alone w
+  pub alone_plan : length w ≡ 4 → HasBytesAt w 0 plan_word → result Plan ≡ word_alone w
   unfolding word_alone
   alone_plan n b = rw (text_from_reads w plan_word n b)
 
@@ -128,9 +128,9 @@ module _ (sum base d i : ℕ) (b : base ≤ 16) (h : d < base) (s : sum < 16 ^ i
 -- ---- what a line asks for
 
 -- a form that there is none of is a misfit
-pub form_told : (o : Option Command) → told (ok_or o Misfit) ≡ told_form o
-form_told (Some c) = refl
-form_told None = refl
+pub form_answer : (o : Option Command) → answer_of (ok_or o Misfit) ≡ answer_of_form o
+form_answer (Some c) = refl
+form_answer None = refl
 
 -- a line asks for what its first 81 bytes ask for
 pub command_first : (l : List ℕ) → command_of (take 81 l) ≡ command_of l

@@ -12,7 +12,7 @@ use lib.ListN.{length, take, drop, get_or, length-append, length-take, length-dr
 use lib.Seq.{take_at, take_all, drop-drop, length-take-le, drop-cons}
 use Rattle.std.specs.Prelude.{Option, Some, None}
 use Rattle.std.specs.List.{position_or_len, position}
-use Rattle.lists.specs.Told.{refusal, says}
+use Rattle.answers.specs.Answers.{refusal, result}
 use Rattle.lists.specs.Lists.{written}
 use Rattle.lists.proofs.Tests.{by_test, by_below}
 use Rattle.lines.specs.Replies.{text_of}
@@ -239,7 +239,7 @@ module _ (w : World) (line piece out : List ℕ) (held : ℕ) where
     pub feed_took : (most : ℕ) (w' : World) (line' out' : List ℕ) (held' taken put : ℕ) → most ≡ length out - room_for w.locations
         → 81 ≤ length line → room_for w.locations ≤ length out → length line' ≡ length line
         → Took most (progress w (take held line) []) piece out w' line' out' held' taken put
-        → after_feed (says (count taken put)) w' (take held' line') held' out' ≡ feed_call w line held piece out
+        → after_feed (result (count taken put)) w' (take held' line') held' out' ≡ feed_call w line held piece out
     unfolding feed_call
     feed_took most w' line' out' held' taken put m l r k t =
         let a : length piece - length (drop taken piece) ≡ taken = omega (arith, t.inside, length-drop taken piece) in
@@ -261,7 +261,7 @@ module _ (w : World) (line piece out : List ℕ) (held : ℕ) where
 -- ---- the end
 
 module _ (w : World) (line out : List ℕ) (held : ℕ) where
-  pub end_bare : held ≡ 0 → after_feed (says (count 0 0)) w (take held line) held out ≡ end_call w line held out
+  pub end_bare : held ≡ 0 → after_feed (result (count 0 0)) w (take held line) held out ≡ end_call w line held out
   unfolding end_call
   end_bare e = rw e
 

@@ -12,7 +12,7 @@ use Rattle.std.specs.Fn.{ComputesKey, CalledAt}
 use Rattle.std.specs.Slice.Iter.{split_steps, split_rest, split_done, split_callee}
 use Rattle.std.proofs.lemmas.Iterator.{YieldsList}
 use Rattle.std.proofs.lemmas.Iterator.Splits.{YieldsList-from_slice_split}
-use Rattle.lists.specs.Told.{refusal}
+use Rattle.answers.specs.Answers.{refusal}
 use Rattle.lines.specs.Lines.{onto, fields}
 use Rattle.lines.specs.Commands.{by_fields, command_of}
 

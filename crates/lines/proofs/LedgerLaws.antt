@@ -6,7 +6,7 @@ use mathlib.Core.List.{List, [], ◌∷◌}
 use Prim.Native.Nat.{ℕ, ◌≤◌}
 use native.Mathlib.Omega.{arith}
 use lib.ListN.{length}
-use Rattle.lists.specs.Told.{Told, refusal, says}
+use Rattle.answers.specs.Answers.{Answer, refusal, result}
 use Rattle.orders.proofs.ReservoirLaws.{fitting_kept}
 use Rattle.orders.proofs.CheckLaws.{fits_parts, used_some}
 use Rattle.orders.proofs.MemoryLaws.{open_length}
@@ -31,9 +31,9 @@ use Rattle.std.specs.Prelude.{Option, Some, None}
 
 -- ---- every round that lines lead to is reached by calls from an accepted open
 
-open_reaches : (key k n : ℕ) (s : Site) → SiteReached s → (o : Told Round) (l : List ℕ) → open_call key k n s.list ≡ after_open o l → SiteReached (replaced s o l).site
+open_reaches : (key k n : ℕ) (s : Site) → SiteReached s → (o : Answer Round) (l : List ℕ) → open_call key k n s.list ≡ after_open o l → SiteReached (replaced s o l).site
 open_reaches key k n s h (refusal w) l e = h
-open_reaches key k n s h (says r) l e =
+open_reaches key k n s h (result r) l e =
     record {
       key = key;
       k = k;
@@ -66,13 +66,13 @@ unfolding plan_line
 plan_site w None e = rw e
 plan_site w (Some r) e = rw e
 
-answered_reaches : (w : World) (c : Told Command) → SiteReached w.site → SiteReached (answered w c).world.site
+answered_reaches : (w : World) (c : Answer Command) → SiteReached w.site → SiteReached (answered w c).world.site
 unfolding answered open_line
-answered_reaches w (says (command.Open key k n)) h = open_reaches key k n w.site h (open_call key k n w.site.list).told (open_call key k n w.site.list).list refl
-answered_reaches w (says command.Admit) h = admit_reaches w.site.list w.site.table w.site.current h
-answered_reaches w (says command.Join) h = join_reaches w.site.list w.site.table w.site.current h
-answered_reaches w (says (command.Withdraw x)) h = withdraw_reaches w.site.list w.site.table x w.site.current h
-answered_reaches w (says command.Plan) h = subst SiteReached (sym (plan_site w w.site.current refl)) h
+answered_reaches w (result (command.Open key k n)) h = open_reaches key k n w.site h (open_call key k n w.site.list).answer (open_call key k n w.site.list).list refl
+answered_reaches w (result command.Admit) h = admit_reaches w.site.list w.site.table w.site.current h
+answered_reaches w (result command.Join) h = join_reaches w.site.list w.site.table w.site.current h
+answered_reaches w (result (command.Withdraw x)) h = withdraw_reaches w.site.list w.site.table x w.site.current h
+answered_reaches w (result command.Plan) h = subst SiteReached (sym (plan_site w w.site.current refl)) h
 answered_reaches w (refusal c) h = h
 
 pub lines_reach : (ls : List (List ℕ)) (w : World) → SiteReached w.site → SiteReached (after_lines w ls).site
@@ -132,13 +132,13 @@ AsLong s s' = (length s.list ≡ length s'.list) × (length s.table ≡ length s
 site_lengths : (w : World) (s : Site) → AsLong s w.site → lengths (world s w.locations w.terminals w.places) ≡ lengths w
 site_lengths w s e = λ i. lengths_by (e.0 i) (e.1 i) (length w.locations) (length w.terminals) w.places
 
-replaced_lengths : (s : Site) (o : Told Round) (l : List ℕ) → length l ≡ length s.list → AsLong (replaced s o l).site s
+replaced_lengths : (s : Site) (o : Answer Round) (l : List ℕ) → length l ≡ length s.list → AsLong (replaced s o l).site s
 replaced_lengths s (refusal w) l e = (refl, refl)
-replaced_lengths s (says r) l e = (e, refl)
+replaced_lengths s (result r) l e = (e, refl)
 
 open_lengths : (key k n : ℕ) (s : Site) → AsLong (open_line key k n s).site s
 unfolding open_line open_call
-open_lengths key k n s = replaced_lengths s (open_call key k n s.list).told (open_call key k n s.list).list (open_length k n key s.list)
+open_lengths key k n s = replaced_lengths s (open_call key k n s.list).answer (open_call key k n s.list).list (open_length k n key s.list)
 
 module _ (l t : List ℕ) where
   admit_lengths : (c : Option Round) → AsLong (admit_line (site c l t)).site (site c l t)
@@ -164,13 +164,13 @@ plan_line_lengths w (Some r) e h =
     let p = plan_lengths s (reached_kept s h) w.locations w.terminals w.places in
     rw e (λ i. lengths_by (length w.site.list) (length w.site.table) (p.0 i) (p.1 i) w.places)
 
-answered_lengths : (w : World) (c : Told Command) → SiteReached w.site → lengths (answered w c).world ≡ lengths w
+answered_lengths : (w : World) (c : Answer Command) → SiteReached w.site → lengths (answered w c).world ≡ lengths w
 unfolding answered
-answered_lengths w (says (command.Open key k n)) h = site_lengths w (open_line key k n w.site).site (open_lengths key k n w.site)
-answered_lengths w (says command.Admit) h = site_lengths w (admit_line w.site).site (admit_lengths w.site.list w.site.table w.site.current)
-answered_lengths w (says command.Join) h = site_lengths w (join_line w.site).site (join_lengths w.site.list w.site.table w.site.current)
-answered_lengths w (says (command.Withdraw x)) h = site_lengths w (withdraw_line x w.site).site (withdraw_lengths w.site.list w.site.table x w.site.current)
-answered_lengths w (says command.Plan) h = plan_line_lengths w w.site.current refl h
+answered_lengths w (result (command.Open key k n)) h = site_lengths w (open_line key k n w.site).site (open_lengths key k n w.site)
+answered_lengths w (result command.Admit) h = site_lengths w (admit_line w.site).site (admit_lengths w.site.list w.site.table w.site.current)
+answered_lengths w (result command.Join) h = site_lengths w (join_line w.site).site (join_lengths w.site.list w.site.table w.site.current)
+answered_lengths w (result (command.Withdraw x)) h = site_lengths w (withdraw_line x w.site).site (withdraw_lengths w.site.list w.site.table x w.site.current)
+answered_lengths w (result command.Plan) h = plan_line_lengths w w.site.current refl h
 answered_lengths w (refusal c) h = refl
 
 lines_lengths : (ls : List (List ℕ)) (w : World) → SiteReached w.site → lengths (after_lines w ls) ≡ lengths w

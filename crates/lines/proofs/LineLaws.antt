@@ -9,8 +9,8 @@ use Rattle.std.proofs.Common.{MutBor}
 use Rattle.std.specs.Prelude.{Option, Some, None, Ok, Err}
 use Rattle.std.specs.Option.{ok_or, option_copied_mut}
 use Rattle.answers.specs.declared.Refusal.{Refusal}
-use Rattle.lists.specs.Told.{Told, refusal, says, map_told}
-use Rattle.lists.proofs.Tolds.{not_said}
+use Rattle.answers.specs.Answers.{Answer, refusal, result, map_answer}
+use Rattle.answers.proofs.AnswerLaws.{not_said}
 use Rattle.orders.specs.ReservoirCalls as Reservoir
 use Rattle.orders.specs.declared.consistent_reservoir.Exchange.{Exchange}
 use Rattle.orders.proofs.ReservoirLaws.{open_kept}
@@ -28,25 +28,25 @@ use Rattle.lines.specs.declared.commands.Command.TheVariants as command
 -- ---- open
 
 -- a refused open leaves the list
-open_keeps : (key k n : ℕ) (l : List ℕ) (w : ℕ) → (open_call key k n l).told ≡ refusal w → (open_call key k n l).list ≡ l
+open_keeps : (key k n : ℕ) (l : List ℕ) (w : ℕ) → (open_call key k n l).answer ≡ refusal w → (open_call key k n l).list ≡ l
 unfolding open_call
 open_keeps key k n l w =
-    open_kept (λ (o : Reservoir.AfterOpen). map_told (λ a. round_of a (Slots.map_of 0)) o.told ≡ refusal w → o.list ≡ l) k n key l
+    open_kept (λ (o : Reservoir.AfterOpen). map_answer (λ a. round_of a (Slots.map_of 0)) o.answer ≡ refusal w → o.list ≡ l) k n key l
     (λ c e. refl)
     (λ r l' h e. not_said w (round_of r (Slots.map_of 0)) (sym e))
 
 module _ (key k n : ℕ) (l after t : List ℕ) (c : Option Round) where
-  pub open_made : (r : Round) → after_open (says r) after ≡ open_call key k n l → said Replies.opened (site (Some r) after t) ≡ open_line key k n (site c l t)
+  pub open_made : (r : Round) → after_open (result r) after ≡ open_call key k n l → said Replies.opened (site (Some r) after t) ≡ open_line key k n (site c l t)
   unfolding open_line
-  open_made r is = ap (λ (x : AfterOpen). replaced (site c l t) x.told x.list) is
+  open_made r is = ap (λ (x : AfterOpen). replaced (site c l t) x.answer x.list) is
 
   pub open_refused : (w : ℕ) → after_open (refusal w) after ≡ open_call key k n l → said (Replies.refused w) (site c after t) ≡ open_line key k n (site c l t)
   unfolding open_line
   open_refused w is =
-      let told : (open_call key k n l).told ≡ refusal w = sym (ap (λ (x : AfterOpen). x.told) is) in
-      let same : after ≡ l = ap (λ (x : AfterOpen). x.list) is ∙ open_keeps key k n l w told in
+      let answer : (open_call key k n l).answer ≡ refusal w = sym (ap (λ (x : AfterOpen). x.answer) is) in
+      let same : after ≡ l = ap (λ (x : AfterOpen). x.list) is ∙ open_keeps key k n l w answer in
       ap (λ (x : List ℕ). said (Replies.refused w) (site c x t)) same
-      ∙ ap (λ (x : Told Round). replaced (site c l t) x (open_call key k n l).list) (sym told)
+      ∙ ap (λ (x : Answer Round). replaced (site c l t) x (open_call key k n l).list) (sym answer)
 
 -- ---- the round that a call is on
 
@@ -78,24 +78,24 @@ module _ (l t : List ℕ) (c : Option Round) where
 
   -- and after one
   module _ (r r' : Round) (e : c ≡ Some r) where
-    pub admit_on : (x : Told (maybe.Option (ℕ × ℕ))) (l' : List ℕ) → after x (state r' l' t) ≡ admit_call (state r l t)
+    pub admit_on : (x : Answer (maybe.Option (ℕ × ℕ))) (l' : List ℕ) → after x (state r' l' t) ≡ admit_call (state r l t)
         → said (replied exchange_reply x) (site (Some r') l' t) ≡ admit_line (site c l t)
     unfolding admit_line
     admit_on x l' is = rw e (ap (said_of exchange_reply) is)
 
-    pub join_on : (x : Told ℕ) (t' : List ℕ) → after x (state r' l t') ≡ join_call (state r l t) → said (replied Replies.joined x) (site (Some r') l t') ≡ join_line (site c l t)
+    pub join_on : (x : Answer ℕ) (t' : List ℕ) → after x (state r' l t') ≡ join_call (state r l t) → said (replied Replies.joined x) (site (Some r') l t') ≡ join_line (site c l t)
     unfolding join_line
     join_on x t' is = rw e (ap (said_of Replies.joined) is)
 
-    pub withdraw_on : (s : ℕ) (x : Told (Unit {0})) (t' : List ℕ) → after x (state r' l t') ≡ withdraw_call (state r l t) s
+    pub withdraw_on : (s : ℕ) (x : Answer (Unit {0})) (t' : List ℕ) → after x (state r' l t') ≡ withdraw_call (state r l t) s
         → said (replied (λ u. Replies.withdrawn s) x) (site (Some r') l t') ≡ withdraw_line s (site c l t)
     unfolding withdraw_line
     withdraw_on s x t' is = rw e (ap (said_of (λ u. Replies.withdrawn s)) is)
 
 -- an exchange as a reply
-pub exchange_told : (e : Option Exchange) → admitted_reply e ≡ replied exchange_reply (Reservoir.told_exchange (Ok e))
-exchange_told (Some e) = refl
-exchange_told None = refl
+pub exchange_answer : (e : Option Exchange) → admitted_reply e ≡ replied exchange_reply (Reservoir.answer_of_exchange (Ok e))
+exchange_answer (Some e) = refl
+exchange_answer None = refl
 
 -- ---- plan
 
@@ -110,7 +110,7 @@ module _ (l t ls ts : List ℕ) (places : ℕ) (c : Option Round) where
     unfolding plan_line shown_plan
     plan_refused w is = rw e (ap (λ (a : AfterPlan). response (replied Replies.planned (shown_plan r.k a)) (world (site (Some r) l t) a.locations a.terminals places)) is)
 
-    pub plan_done : after_plan (says tt) ls' ts' ≡ plan_call (state r l t) ls ts places
+    pub plan_done : after_plan (result tt) ls' ts' ≡ plan_call (state r l t) ls ts places
         → response (Replies.planned (sheets (take r.k ls') (take r.k ts'))) (world (site c l t) ls' ts' places) ≡ plan_line (world (site c l t) ls ts places)
     unfolding plan_line shown_plan
     plan_done is = rw e (ap (λ (a : AfterPlan). response (replied Replies.planned (shown_plan r.k a)) (world (site (Some r) l t) a.locations a.terminals places)) is)
@@ -123,27 +123,27 @@ unfolding respond parse_call answered
 respond_misfit w line c e = ap (answered w) e
 
 -- any other is what its command asks for
-respond_command : (w : World) (line : List ℕ) (cmd : Command) → says cmd ≡ parse_call line → answered w (says cmd) ≡ respond w line
+respond_command : (w : World) (line : List ℕ) (cmd : Command) → result cmd ≡ parse_call line → answered w (result cmd) ≡ respond w line
 unfolding respond parse_call
 respond_command w line cmd e = ap (answered w) e
 
-module _ (w : World) (line : List ℕ) (cmd : Command) (asked : says cmd ≡ parse_call line) (r : Replies.Reply) (s : Site) where
+module _ (w : World) (line : List ℕ) (cmd : Command) (asked : result cmd ≡ parse_call line) (r : Replies.Reply) (s : Site) where
   pub respond_open : (key k n : ℕ) → cmd ≡ command.Open key k n → said r s ≡ open_line key k n w.site → response r (world s w.locations w.terminals w.places) ≡ respond w line
   unfolding answered
-  respond_open key k n e is = ap (on_site w) is ∙ ap (λ (x : Command). answered w (says x)) (sym e) ∙ respond_command w line cmd asked
+  respond_open key k n e is = ap (on_site w) is ∙ ap (λ (x : Command). answered w (result x)) (sym e) ∙ respond_command w line cmd asked
 
   pub respond_admit : cmd ≡ command.Admit → said r s ≡ admit_line w.site → response r (world s w.locations w.terminals w.places) ≡ respond w line
   unfolding answered
-  respond_admit e is = ap (on_site w) is ∙ ap (λ (x : Command). answered w (says x)) (sym e) ∙ respond_command w line cmd asked
+  respond_admit e is = ap (on_site w) is ∙ ap (λ (x : Command). answered w (result x)) (sym e) ∙ respond_command w line cmd asked
 
   pub respond_join : cmd ≡ command.Join → said r s ≡ join_line w.site → response r (world s w.locations w.terminals w.places) ≡ respond w line
   unfolding answered
-  respond_join e is = ap (on_site w) is ∙ ap (λ (x : Command). answered w (says x)) (sym e) ∙ respond_command w line cmd asked
+  respond_join e is = ap (on_site w) is ∙ ap (λ (x : Command). answered w (result x)) (sym e) ∙ respond_command w line cmd asked
 
   pub respond_withdraw : (x : ℕ) → cmd ≡ command.Withdraw x → said r s ≡ withdraw_line x w.site → response r (world s w.locations w.terminals w.places) ≡ respond w line
   unfolding answered
-  respond_withdraw x e is = ap (on_site w) is ∙ ap (λ (x : Command). answered w (says x)) (sym e) ∙ respond_command w line cmd asked
+  respond_withdraw x e is = ap (on_site w) is ∙ ap (λ (x : Command). answered w (result x)) (sym e) ∙ respond_command w line cmd asked
 
-pub respond_plan : (w : World) (line : List ℕ) (cmd : Command) → says cmd ≡ parse_call line → cmd ≡ command.Plan → (x : Response) → x ≡ plan_line w → x ≡ respond w line
+pub respond_plan : (w : World) (line : List ℕ) (cmd : Command) → result cmd ≡ parse_call line → cmd ≡ command.Plan → (x : Response) → x ≡ plan_line w → x ≡ respond w line
 unfolding answered
-respond_plan w line cmd asked e x is = is ∙ ap (λ (x : Command). answered w (says x)) (sym e) ∙ respond_command w line cmd asked
+respond_plan w line cmd asked e x is = is ∙ ap (λ (x : Command). answered w (result x)) (sym e) ∙ respond_command w line cmd asked

@@ -10,10 +10,10 @@ use borrow.Author.Tests.{le-leb, le-ltb, lt-ltb, eqb-true, eqb-false}
 use lib.Dec.{leb, ltb, eqb}
 use lib.ListN.{length, take, drop, length-append, length-drop}
 use lib.Seq.{length-take-le}
-use Rattle.lists.specs.Told.{Told, refusal, says}
+use Rattle.answers.specs.Answers.{Answer, refusal, result}
 use Rattle.lists.specs.Lists.{written}
 use Rattle.lists.proofs.Tests.{by_test, by_below, by_cond}
-use Rattle.lists.proofs.Tolds.{not_said, said_same}
+use Rattle.answers.proofs.AnswerLaws.{not_said, said_same}
 use Rattle.lists.proofs.Writing.{written_take}
 use Rattle.lines.specs.Sessions.{World}
 use Rattle.lines.specs.Streams.{Progress, progress, byte, FedPart, fed_part, fed_up_to, room_for, Count, count, AfterFeed, after_feed, feed_call, end_call}
@@ -61,12 +61,12 @@ module _ (w : World) (h piece out : List ℕ) where
 
   -- what is left where a piece was fed in part
   abbrev left : FedPart → AfterFeed
-  left p = after_feed (says (count (length piece - length p.rest) (length p.progress.text))) p.progress.world p.progress.held (length p.progress.held) (written p.progress.text out)
+  left p = after_feed (result (count (length piece - length p.rest) (length p.progress.text))) p.progress.world p.progress.held (length p.progress.held) (written p.progress.text out)
 
-  left_feeds : (n taken put : ℕ) → n ≤ length piece → (0 < length piece → 0 < n) → (left (fed_part (fed start (take n piece)) (drop n piece))).told ≡ says (count taken put)
+  left_feeds : (n taken put : ℕ) → n ≤ length piece → (0 < length piece → 0 < n) → (left (fed_part (fed start (take n piece)) (drop n piece))).answer ≡ result (count taken put)
       → Feeds start piece out (left (fed_part (fed start (take n piece)) (drop n piece))) taken put
-  left_feeds n taken put inside some told =
-      let e = said_same _ _ told in
+  left_feeds n taken put inside some answer =
+      let e = said_same _ _ answer in
       let t : length piece - length (drop n piece) ≡ taken = ap (λ (c : Count). c.taken) e in
       let q : length (fed start (take n piece)).text ≡ put = ap (λ (c : Count). c.put) e in
       let s : n ≡ taken = omega (arith, length-drop n piece) in
@@ -81,12 +81,12 @@ module _ (w : World) (h piece out : List ℕ) where
       })
 
 -- an accepted call of feed, whatever it is lent
-pub feed_feeds : (w : World) (line : List ℕ) (m : ℕ) (piece out : List ℕ) (taken put : ℕ) → (feed_call w line m piece out).told ≡ says (count taken put)
+pub feed_feeds : (w : World) (line : List ℕ) (m : ℕ) (piece out : List ℕ) (taken put : ℕ) → (feed_call w line m piece out).answer ≡ result (count taken put)
     → Feeds (progress w (take m line) []) piece out (feed_call w line m piece out) taken put
 unfolding feed_call
 feed_feeds w line m piece out taken put =
     let s = progress w (take m line) [] in
-    let Q : AfterFeed → Type 0 = λ a. a.told ≡ says (count taken put) → Feeds s piece out a taken put in
+    let Q : AfterFeed → Type 0 = λ a. a.answer ≡ result (count taken put) → Feeds s piece out a taken put in
     let most = length out - room_for w.locations in
     let c = cut most s piece in
     by_cond Q (ltb 81 m || ltb (length line) m) _ _
@@ -124,7 +124,7 @@ finish_within {start} {out} {a} {put} f e =
     omega (arith, f.put_is, text_within (ended start).text out (sym (ap length f.out_is) ∙ e))
 
 -- an accepted call holds no more than the line has
-feed_holds : (w : World) (line : List ℕ) (m : ℕ) (piece out : List ℕ) (c : Count) → (feed_call w line m piece out).told ≡ says c → m ≤ length line
+feed_holds : (w : World) (line : List ℕ) (m : ℕ) (piece out : List ℕ) (c : Count) → (feed_call w line m piece out).answer ≡ result c → m ≤ length line
 unfolding feed_call
 feed_holds w line m piece out c e =
     by_below (length line) m
@@ -132,13 +132,13 @@ feed_holds w line m piece out c e =
     (λ h. h)
 
 module _ (w : World) (line : List ℕ) (m : ℕ) (out : List ℕ) (taken put : ℕ) where
-  ends_bare : m ≡ 0 → ◌≡◌ {A = Told Count} (says (count 0 0)) (says (count taken put)) → Ends (progress w (take m line) []) out (after_feed (says (count 0 0)) w [] 0 out) put
+  ends_bare : m ≡ 0 → ◌≡◌ {A = Answer Count} (result (count 0 0)) (result (count taken put)) → Ends (progress w (take m line) []) out (after_feed (result (count 0 0)) w [] 0 out) put
   unfolding written
-  ends_bare z told =
+  ends_bare z answer =
       let s = progress w (take m line) [] in
       let h : take m line ≡ [] = ap (λ (i : ℕ). take i line) z in
       let e : ended s ≡ s = ended_none s (ap length h) in
-      let q : 0 ≡ put = ap (λ (c : Count). c.put) (said_same _ _ told) in
+      let q : 0 ≡ put = ap (λ (c : Count). c.put) (said_same _ _ answer) in
       record {
         world_is = ap (λ (x : Progress). x.world) (sym e);
         held_is = refl;
@@ -146,12 +146,12 @@ module _ (w : World) (line : List ℕ) (m : ℕ) (out : List ℕ) (taken put : �
         out_is = ap (λ (x : Progress). written x.text out) (sym e);
       }
 
-  ends_held : (m ≡ 0 → ⊥) → (feed_call w line m (10 ∷ []) out).told ≡ says (count taken put) → Ends (progress w (take m line) []) out (feed_call w line m (10 ∷ []) out) put
-  ends_held z told =
+  ends_held : (m ≡ 0 → ⊥) → (feed_call w line m (10 ∷ []) out).answer ≡ result (count taken put) → Ends (progress w (take m line) []) out (feed_call w line m (10 ∷ []) out) put
+  ends_held z answer =
       let s = progress w (take m line) [] in
-      let f = feed_feeds w line m (10 ∷ []) out taken put told in
+      let f = feed_feeds w line m (10 ∷ []) out taken put answer in
       let t : taken ≡ 1 = omega (arith, f.inside, f.some (omega arith)) in
-      let n : length (take m line) ≡ m = length-take-le m line (feed_holds w line m (10 ∷ []) out _ told) in
+      let n : length (take m line) ≡ m = length-take-le m line (feed_holds w line m (10 ∷ []) out _ answer) in
       let e : fed s (take taken (10 ∷ [])) ≡ ended s = ap (λ (i : ℕ). fed s (take i (10 ∷ []))) t ∙ sym (ended_held s (λ y. z (sym n ∙ y))) in
       let b : (fed s (take taken (10 ∷ []))).held ≡ [] = ap (λ (i : ℕ). (fed s (take i (10 ∷ []))).held) t ∙ ap (λ (x : Progress). x.held) (byte_line s 10 refl) in
       record {
@@ -162,25 +162,25 @@ module _ (w : World) (line : List ℕ) (m : ℕ) (out : List ℕ) (taken put : �
       }
 
   -- an accepted call of finish, whatever it is lent
-  pub finish_ends : (end_call w line m out).told ≡ says (count taken put) → Ends (progress w (take m line) []) out (end_call w line m out) put
+  pub finish_ends : (end_call w line m out).answer ≡ result (count taken put) → Ends (progress w (take m line) []) out (end_call w line m out) put
   unfolding end_call
   finish_ends =
-      by_cond (λ (a : AfterFeed). a.told ≡ says (count taken put) → Ends (progress w (take m line) []) out a put) (eqb m 0) _ _
+      by_cond (λ (a : AfterFeed). a.answer ≡ result (count taken put) → Ends (progress w (take m line) []) out a put) (eqb m 0) _ _
       (λ y. ends_bare (eqb-true m 0 y))
       (λ n. ends_held (eqb-false m 0 n))
 
 -- ---- no refusal
 
 -- with lists long enough feed and finish are not refused
-pub feed_not_refused : (w : World) (line : List ℕ) (m : ℕ) (piece out : List ℕ) → Fits m line w out → (c : ℕ) → (feed_call w line m piece out).told ≡ refusal c → ⊥
+pub feed_not_refused : (w : World) (line : List ℕ) (m : ℕ) (piece out : List ℕ) → Fits m line w out → (c : ℕ) → (feed_call w line m piece out).answer ≡ refusal c → ⊥
 unfolding feed_call
 feed_not_refused w line m piece out f c =
     rw (le-ltb 81 m f.held, le-ltb (length line) m (omega (arith, f.held, f.line)), le-ltb (length line) 81 f.line, le-ltb (length out) (room_for w.locations) f.out)
     (λ e. not_said c _ (sym e))
 
-pub finish_not_refused : (w : World) (line : List ℕ) (m : ℕ) (out : List ℕ) → Fits m line w out → (c : ℕ) → (end_call w line m out).told ≡ refusal c → ⊥
+pub finish_not_refused : (w : World) (line : List ℕ) (m : ℕ) (out : List ℕ) → Fits m line w out → (c : ℕ) → (end_call w line m out).answer ≡ refusal c → ⊥
 unfolding end_call
 finish_not_refused w line m out f c =
-    by_cond (λ (a : AfterFeed). a.told ≡ refusal c → ⊥) (eqb m 0) _ _
+    by_cond (λ (a : AfterFeed). a.answer ≡ refusal c → ⊥) (eqb m 0) _ _
     (λ y e. not_said c _ (sym e))
     (λ n. feed_not_refused w line m (10 ∷ []) out f c)

@@ -9,11 +9,11 @@ use Prim.Native.Nat.{ℕ}
 use lib.Dec.{ltb, leb, eqb}
 use lib.ListN.{length, take}
 use Rattle.std.specs.Prelude.{Result, Ok, Err, Option, Some, None}
-use Rattle.lists.specs.Told.{Told, refusal, says, map_told}
+use Rattle.answers.specs.Answers.{Answer, refusal, result, map_answer}
 use Rattle.lists.specs.Lists.{same, has, every}
-use Rattle.lists.specs.Refusing.{Among, Spares}
+use Rattle.answers.specs.Refusing.{Among, Spares}
 use Rattle.lists.proofs.Tests.{by_cond}
-use Rattle.lists.proofs.Spared.{has_within, spared_within}
+use Rattle.answers.proofs.Spared.{has_within, spared_within}
 use Rattle.answers.specs.declared.Refusal.{Refusal}
 use Rattle.rounds.specs.declared.round.Round.{Round}
 use Rattle.rounds.specs.Rounds.{State, state, open_call, admit_call, join_call, withdraw_call}
@@ -30,8 +30,8 @@ use Rattle.lines.specs.declared.sessions.Memory.{Memory}
 use Rattle.lines.specs.declared.sessions.Fed.{Fed}
 use Rattle.lines.specs.Replies.{Reply, joined, withdrawn, planned}
 use Rattle.lines.specs.Sessions.{replied, site, said, replaced, open_line, exchange_reply, admit_line, join_line, withdraw_line, World, world, Response, response, plan_line, on_site, answered, respond}
-use Rattle.lines.specs.Streams.{AfterFeed, after_feed, held_most, room_for, told_feeding, world_of, after_call, feed_call, end_call, BuffersAfter}
-use Rattle.lines.specs.RefusedBy.{parse_refusals, feed_refusals, finish_refusals, told_reply, line_refusals}
+use Rattle.lines.specs.Streams.{AfterFeed, after_feed, held_most, room_for, answer_of_feeding, world_of, after_call, feed_call, end_call, BuffersAfter}
+use Rattle.lines.specs.RefusedBy.{parse_refusals, feed_refusals, finish_refusals, answer_of_reply, line_refusals}
 
 -- ---- parse
 
@@ -69,7 +69,7 @@ parse_refuses line = by_cond (Among parse_refusals) (leb (length line) 80) _ _ (
 module _ (w : World) (line : List ℕ) (m : ℕ) (out : List ℕ) where
   -- what they leave of what the model has
   abbrev Spared : List ℕ → AfterFeed → Type 0
-  Spared ws a = Spares ws a.told (after_feed a.told w (take m line) m out) a
+  Spared ws a = Spares ws a.answer (after_feed a.answer w (take m line) m out) a
 
   feed_spares : (piece : List ℕ) → Spared feed_refusals (feed_call w line m piece out)
   unfolding feed_call has same
@@ -94,7 +94,7 @@ module _ (s s' : Session) (m m' : Memory) (line line' out out' : List ℕ) where
   LeftSo r a = (after_call r s' (world_of s' m') line' out' ≡ a) × BuffersAfter r line line' m.scratch.now m'.scratch.now
 
   all_spared : (ws : List ℕ) (r : Result Fed Refusal) (a : AfterFeed) → Spared (world_of s m) line s.held out ws a → LeftSo r a
-      → Spares {M = Lent} ws (told_feeding r) (lent s m line out) (lent s' m' line' out')
+      → Spares {M = Lent} ws (answer_of_feeding r) (lent s m line out) (lent s' m' line' out')
   all_spared ws (Ok f) a h e = tt
   all_spared ws (Err why) a h e =
       let p = subst (Spared (world_of s m) line s.held out ws) (sym e.0) h in
@@ -103,12 +103,12 @@ module _ (s s' : Session) (m m' : Memory) (line line' out out' : List ℕ) where
   pub feed_refuses : (piece : List ℕ) (r : Result Fed Refusal)
       → after_call r s' (world_of s' m') line' out' ≡ feed_call (world_of s m) line s.held piece out
       → BuffersAfter r line line' m.scratch.now m'.scratch.now
-      → Spares {M = Lent} feed_refusals (told_feeding r) (lent s m line out) (lent s' m' line' out')
+      → Spares {M = Lent} feed_refusals (answer_of_feeding r) (lent s m line out) (lent s' m' line' out')
   feed_refuses piece r e b = all_spared feed_refusals r _ (feed_spares (world_of s m) line s.held out piece) (e, b)
 
   pub finish_refuses : (r : Result Fed Refusal)
       → after_call r s' (world_of s' m') line' out' ≡ end_call (world_of s m) line s.held out → BuffersAfter r line line' m.scratch.now m'.scratch.now
-      → Spares {M = Lent} finish_refusals (told_feeding r) (lent s m line out) (lent s' m' line' out')
+      → Spares {M = Lent} finish_refusals (answer_of_feeding r) (lent s m line out) (lent s' m' line' out')
   finish_refuses r e b = all_spared finish_refusals r _ (finish_spares (world_of s m) line s.held out) (e, b)
 
 -- ---- a line
@@ -119,20 +119,20 @@ module _ (l t ls ts : List ℕ) (places : ℕ) where
   with_round c = world (site c l t) ls ts places
 
   abbrev LineSpared : Option Round → Response → Type 0
-  LineSpared c a = Spares line_refusals (told_reply a.reply) (with_round c) a.world
+  LineSpared c a = Spares line_refusals (answer_of_reply a.reply) (with_round c) a.world
 
   -- "a refused one changes nothing"
-  replaced_spares : (c : Option Round) (o : Told Round) (l' : List ℕ) → Spares line_refusals o l l'
+  replaced_spares : (c : Option Round) (o : Answer Round) (l' : List ℕ) → Spares line_refusals o l l'
       → LineSpared c (on_site (with_round c) (replaced (site c l t) o l'))
   replaced_spares c (refusal w) l' s = (s.0, refl)
-  replaced_spares c (says r) l' s = tt
+  replaced_spares c (result r) l' s = tt
 
   -- a call on the round, whose answers are no refusals
-  module _ {A : Type 0} (f : A → Reply) (says_so : (x : A) → told_reply (f x) ≡ says (f x)) where
-    said_spares : (r : Round) (o : Told A) (s' : State) → Spares line_refusals o (state r l t) s'
+  module _ {A : Type 0} (f : A → Reply) (says_so : (x : A) → answer_of_reply (f x) ≡ result (f x)) where
+    said_spares : (r : Round) (o : Answer A) (s' : State) → Spares line_refusals o (state r l t) s'
         → LineSpared (Some r) (on_site (with_round (Some r)) (said (replied f o) (site (Some s'.round) s'.list s'.table)))
     said_spares r (refusal w) s' s = (s.0, (λ i. world (site (Some (s.1 i).round) (s.1 i).list (s.1 i).table) ls ts places))
-    said_spares r (says x) s' s = subst (λ (o : Told Reply). Spares line_refusals o (with_round (Some r)) (with_lists s')) (sym (says_so x)) tt
+    said_spares r (result x) s' s = subst (λ (o : Answer Reply). Spares line_refusals o (with_round (Some r)) (with_lists s')) (sym (says_so x)) tt
       where
         with_lists : State → World
         with_lists s = world (site (Some s.round) s.list s.table) ls ts places
@@ -141,9 +141,9 @@ module _ (l t ls ts : List ℕ) (places : ℕ) where
   unfolding open_line every has same
   open_line_spares c key k n =
       let o = open_call key k n l in
-      replaced_spares c o.told o.list (spared_within open_refusals line_refusals o.told l o.list refl (rounds.open_refuses key k n l))
+      replaced_spares c o.answer o.list (spared_within open_refusals line_refusals o.answer l o.list refl (rounds.open_refuses key k n l))
 
-  exchange_says : (x : maybe.Option (ℕ × ℕ)) → told_reply (exchange_reply x) ≡ says (exchange_reply x)
+  exchange_says : (x : maybe.Option (ℕ × ℕ)) → answer_of_reply (exchange_reply x) ≡ result (exchange_reply x)
   exchange_says maybe.none = refl
   exchange_says (maybe.some p) = refl
 
@@ -153,7 +153,7 @@ module _ (l t ls ts : List ℕ) (places : ℕ) where
   admit_line_spares (Some r) =
       let s = state r l t in
       let a = admit_call s in
-      said_spares exchange_reply exchange_says r a.told a.state (spared_within admit_refusals line_refusals a.told s a.state refl (rounds.admit_refuses s))
+      said_spares exchange_reply exchange_says r a.answer a.state (spared_within admit_refusals line_refusals a.answer s a.state refl (rounds.admit_refuses s))
 
   join_line_spares : (c : Option Round) → LineSpared c (on_site (with_round c) (join_line (site c l t)))
   unfolding join_line every has same
@@ -161,7 +161,7 @@ module _ (l t ls ts : List ℕ) (places : ℕ) where
   join_line_spares (Some r) =
       let s = state r l t in
       let a = join_call s in
-      said_spares joined (λ x. refl) r a.told a.state (spared_within join_refusals line_refusals a.told s a.state refl (rounds.join_refuses s))
+      said_spares joined (λ x. refl) r a.answer a.state (spared_within join_refusals line_refusals a.answer s a.state refl (rounds.join_refuses s))
 
   withdraw_line_spares : (x : ℕ) (c : Option Round) → LineSpared c (on_site (with_round c) (withdraw_line x (site c l t)))
   unfolding withdraw_line every has same
@@ -169,13 +169,13 @@ module _ (l t ls ts : List ℕ) (places : ℕ) where
   withdraw_line_spares x (Some r) =
       let s = state r l t in
       let a = withdraw_call s x in
-      said_spares (λ u. withdrawn x) (λ u. refl) r a.told a.state
-      (spared_within withdraw_refusals line_refusals a.told s a.state refl (rounds.withdraw_refuses s x))
+      said_spares (λ u. withdrawn x) (λ u. refl) r a.answer a.state
+      (spared_within withdraw_refusals line_refusals a.answer s a.state refl (rounds.withdraw_refuses s x))
 
-  planned_spares : (c : Option Round) (f : Unit {0} → List Sheet) (o : Told (Unit {0})) (p : AfterPlan) → Spares line_refusals o (after_plan o ls ts) p
-      → LineSpared c (response (replied planned (map_told f o)) (world (site c l t) p.locations p.terminals places))
+  planned_spares : (c : Option Round) (f : Unit {0} → List Sheet) (o : Answer (Unit {0})) (p : AfterPlan) → Spares line_refusals o (after_plan o ls ts) p
+      → LineSpared c (response (replied planned (map_answer f o)) (world (site c l t) p.locations p.terminals places))
   planned_spares c f (refusal w) p s = (s.0, (λ i. world (site c l t) (s.1 i).locations (s.1 i).terminals places))
-  planned_spares c f (says u) p s = tt
+  planned_spares c f (result u) p s = tt
 
   plan_line_spares : (c : Option Round) → LineSpared c (plan_line (with_round c))
   unfolding plan_line shown_plan every has same
@@ -183,19 +183,19 @@ module _ (l t ls ts : List ℕ) (places : ℕ) where
   plan_line_spares (Some r) =
       let s = state r l t in
       let p = plan_call s ls ts places in
-      planned_spares (Some r) _ p.told p
-      (spared_within plan_refusals line_refusals p.told (after_plan p.told ls ts) p refl (rounds.plan_spares s ls ts places))
+      planned_spares (Some r) _ p.answer p
+      (spared_within plan_refusals line_refusals p.answer (after_plan p.answer ls ts) p refl (rounds.plan_spares s ls ts places))
 
-  answered_spares : (c : Option Round) (o : Told Command) → Among parse_refusals o → LineSpared c (answered (with_round c) o)
+  answered_spares : (c : Option Round) (o : Answer Command) → Among parse_refusals o → LineSpared c (answered (with_round c) o)
   unfolding answered every has same
   answered_spares c (refusal w) a = (has_within parse_refusals line_refusals refl w a, refl)
-  answered_spares c (says (command.Open key k n)) a = open_line_spares c key k n
-  answered_spares c (says command.Admit) a = admit_line_spares c
-  answered_spares c (says command.Join) a = join_line_spares c
-  answered_spares c (says (command.Withdraw x)) a = withdraw_line_spares x c
-  answered_spares c (says command.Plan) a = plan_line_spares c
+  answered_spares c (result (command.Open key k n)) a = open_line_spares c key k n
+  answered_spares c (result command.Admit) a = admit_line_spares c
+  answered_spares c (result command.Join) a = join_line_spares c
+  answered_spares c (result (command.Withdraw x)) a = withdraw_line_spares x c
+  answered_spares c (result command.Plan) a = plan_line_spares c
 
 -- "refused .." to a line leaves all that the program has as it was
-pub line_refuses : (w : World) (line : List ℕ) → let a = respond w line in Spares line_refusals (told_reply a.reply) w a.world
+pub line_refuses : (w : World) (line : List ℕ) → let a = respond w line in Spares line_refusals (answer_of_reply a.reply) w a.world
 unfolding respond parse_call
 line_refuses w line = answered_spares w.site.list w.site.table w.locations w.terminals w.places w.site.current (command_of line) (parse_refuses line)

@@ -4,21 +4,21 @@ use Rattle.std.specs.Prelude.{◌≡◌, List, ◌++◌, ℕ, ◌+◌, ◌≤◌
 use Rattle.answers.specs.Refusals.{number}
 use Rattle.answers.specs.declared.Refusal.{Refusal}
 use Rattle.orders.specs.declared.consistent_reservoir.Exchange.{Exchange}
-use Rattle.lists.specs.Told.{Told, refusal, says}
+use Rattle.answers.specs.Answers.{Answer, refusal, result}
 use Rattle.lists.specs.Lists.{written}
 use Rattle.lines.specs.declared.commands.Command.{Command}
 use Rattle.rounds.specs.Plans.{sheets}
 use Rattle.lines.specs.Replies.{Reply, opened, admitted, nothing, joined, withdrawn, planned, refused}
 use Rattle.lines.specs.declared.texts.Text.{Text}
-use Rattle.lines.specs.declared.texts.Answer.{Answer}
-use Rattle.lines.specs.declared.texts.Answer.TheVariants as answer
+use Rattle.lines.specs.declared.texts.Accepted.{Accepted}
+use Rattle.lines.specs.declared.texts.Accepted.TheVariants as accepted
 
 -- ---- a line taken apart
 
 -- what a form tells of a line: refusal 12 where the line has another
-abbrev pub told_form : Option Command → Told Command
-told_form (Some c) = says c
-told_form None = refusal 12
+abbrev pub answer_of_form : Option Command → Answer Command
+answer_of_form (Some c) = result c
+answer_of_form None = refusal 12
 
 -- ---- an answer as code has it
 
@@ -28,15 +28,15 @@ admitted_reply (Some e) = admitted e.enters e.leaves
 admitted_reply None = nothing
 
 -- of a plan the first k places of its two lists
-abbrev pub line_of : Answer → List ℕ → List ℕ → Reply
-line_of answer.Opened ls ts = opened
-line_of (answer.Admitted e) ls ts = admitted_reply e
-line_of (answer.Joined s) ls ts = joined s
-line_of (answer.Withdrawn s) ls ts = withdrawn s
-line_of (answer.Planned k) ls ts = planned (sheets (take k ls) (take k ts))
+abbrev pub line_of : Accepted → List ℕ → List ℕ → Reply
+line_of accepted.Opened ls ts = opened
+line_of (accepted.Admitted e) ls ts = admitted_reply e
+line_of (accepted.Joined s) ls ts = joined s
+line_of (accepted.Withdrawn s) ls ts = withdrawn s
+line_of (accepted.Planned k) ls ts = planned (sheets (take k ls) (take k ts))
 
 -- an answer, or a refusal by its number
-abbrev pub reply_of : Result Answer Refusal → List ℕ → List ℕ → Reply
+abbrev pub reply_of : Result Accepted Refusal → List ℕ → List ℕ → Reply
 reply_of (Ok a) ls ts = line_of a ls ts
 reply_of (Err why) ls ts = refused (number why)
 

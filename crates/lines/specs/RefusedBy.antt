@@ -1,7 +1,7 @@
 -- The refusals of each call, in document 01's order. That it has no others is the law of its list in proofs/RefusedLaws.antt.
 -- Assumes nothing.
 use Rattle.std.specs.Prelude.{List, [], ◌∷◌, ℕ}
-use Rattle.lists.specs.Told.{Told, refusal, says}
+use Rattle.answers.specs.Answers.{Answer, refusal, result}
 use Rattle.lines.specs.Replies.{Reply, opened, admitted, nothing, joined, withdrawn, planned, refused}
 
 -- `parse`. 12: "a program line of no known form"
@@ -19,14 +19,14 @@ finish_refusals = 12 ∷ 4 ∷ []
 -- ---- lines
 
 -- an answer to a line, as what a call says
-abbrev pub told_reply : Reply → Told Reply
-told_reply opened = says opened
-told_reply (admitted x y) = says (admitted x y)
-told_reply nothing = says nothing
-told_reply (joined s) = says (joined s)
-told_reply (withdrawn s) = says (withdrawn s)
-told_reply (planned ss) = says (planned ss)
-told_reply (refused c) = refusal c
+abbrev pub answer_of_reply : Reply → Answer Reply
+answer_of_reply opened = result opened
+answer_of_reply (admitted x y) = result (admitted x y)
+answer_of_reply nothing = result nothing
+answer_of_reply (joined s) = result (joined s)
+answer_of_reply (withdrawn s) = result (withdrawn s)
+answer_of_reply (planned ss) = result (planned ss)
+answer_of_reply (refused c) = refusal c
 
 -- a line is refused 12, or what its open, admit, join, withdraw or plan is
 abbrev pub line_refusals : List ℕ

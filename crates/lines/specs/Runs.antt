@@ -2,7 +2,7 @@
 -- what the one before left.
 -- Assumes nothing.
 use Rattle.std.specs.Prelude.{◌≡◌, List, [], ◌∷◌, ◌++◌, ℕ, take}
-use Rattle.lists.specs.Told.{says}
+use Rattle.answers.specs.Answers.{result}
 use Rattle.lines.specs.Sessions.{World}
 use Rattle.lines.specs.Streams.{count, feed_call, end_call}
 
@@ -14,8 +14,8 @@ whole (p ∷ ps) = p ++ whole ps
 -- From a world and what is held of a line: the parts of the pieces that the calls take, and all that they put out. A call is lent
 -- the list with the held bytes, and any list for what it puts out; it is not refused.
 pub data Runs : World → List ℕ → List (List ℕ) → List ℕ → Type 0 where
-  finishes : (w : World) (line : List ℕ) (m : ℕ) (out : List ℕ) (taken put : ℕ) → (end_call w line m out).told ≡ says (count taken put)
+  finishes : (w : World) (line : List ℕ) (m : ℕ) (out : List ℕ) (taken put : ℕ) → (end_call w line m out).answer ≡ result (count taken put)
       → Runs w (take m line) [] (take put (end_call w line m out).out)
-  feeds : (w : World) (line : List ℕ) (m : ℕ) (piece out : List ℕ) (taken put : ℕ) → (feed_call w line m piece out).told ≡ says (count taken put)
+  feeds : (w : World) (line : List ℕ) (m : ℕ) (piece out : List ℕ) (taken put : ℕ) → (feed_call w line m piece out).answer ≡ result (count taken put)
       → (parts : List (List ℕ)) (text : List ℕ) → Runs (feed_call w line m piece out).world (feed_call w line m piece out).held parts text
       → Runs w (take m line) (take taken piece ∷ parts) (take put (feed_call w line m piece out).out ++ text)

@@ -2,7 +2,7 @@
 -- Assumes nothing.
 use Rattle.std.specs.Prelude.{List, [], ◌∷◌, ◌++◌, ℕ, Option, Some, None}
 use Rattle.std.proofs.Math.Option as maybe
-use Rattle.lists.specs.Told.{Told, refusal, says}
+use Rattle.answers.specs.Answers.{Answer, refusal, result}
 use Rattle.rounds.specs.declared.round.Round.{Round}
 use Rattle.rounds.specs.Rounds.{state, open_call, After, admit_call, join_call, withdraw_call}
 use Rattle.rounds.specs.Plans.{plan_call, shown_plan}
@@ -12,9 +12,9 @@ use Rattle.lines.specs.declared.commands.Command.{Command}
 use Rattle.lines.specs.declared.commands.Command.TheVariants as command
 
 -- a refusal by its number, or what is answered otherwise
-abbrev pub replied : {A : Type 0} → (A → Reply) → Told A → Reply
+abbrev pub replied : {A : Type 0} → (A → Reply) → Answer A → Reply
 replied f (refusal c) = refused c
-replied f (says x) = f x
+replied f (result x) = f x
 
 -- ---- open, admit, join, withdraw
 
@@ -36,12 +36,12 @@ abbrev pub said : Reply → Site → Said
 said r s = record { reply = r; site = s }
 
 -- "An accepted open replaces the round"; a refused one changes nothing
-abbrev pub replaced : Site → Told Round → List ℕ → Said
+abbrev pub replaced : Site → Answer Round → List ℕ → Said
 replaced s (refusal c) l = said (refused c) s
-replaced s (says r) l = said opened (site (Some r) l s.table)
+replaced s (result r) l = said opened (site (Some r) l s.table)
 
 unfoldable pub open_line : ℕ → ℕ → ℕ → Site → Said
-open_line key k n s = replaced s (open_call key k n s.list).told (open_call key k n s.list).list
+open_line key k n s = replaced s (open_call key k n s.list).answer (open_call key k n s.list).list
 
 -- "any other call before one gets 12", and all is as it was; after one it is the round's call
 abbrev pub on_round : {A : Type 0} → Option Round → A → (Round → A) → A
@@ -50,7 +50,7 @@ on_round (Some r) before f = f r
 
 -- what the round's call says, and what it leaves
 abbrev pub said_of : {A : Type 0} → (A → Reply) → After A → Said
-said_of f a = said (replied f a.told) (site (Some a.state.round) a.state.list a.state.table)
+said_of f a = said (replied f a.answer) (site (Some a.state.round) a.state.list a.state.table)
 
 -- "the location in and the one out, or the word none alone"
 abbrev pub exchange_reply : maybe.Option (ℕ × ℕ) → Reply
@@ -100,13 +100,13 @@ abbrev pub on_site : World → Said → Response
 on_site w a = response a.reply (world a.site w.locations w.terminals w.places)
 
 -- "12 .. a program line of no known form"
-unfoldable pub answered : World → Told Command → Response
+unfoldable pub answered : World → Answer Command → Response
 answered w (refusal c) = response (refused c) w
-answered w (says (command.Open key k n)) = on_site w (open_line key k n w.site)
-answered w (says command.Admit) = on_site w (admit_line w.site)
-answered w (says command.Join) = on_site w (join_line w.site)
-answered w (says (command.Withdraw x)) = on_site w (withdraw_line x w.site)
-answered w (says command.Plan) = plan_line w
+answered w (result (command.Open key k n)) = on_site w (open_line key k n w.site)
+answered w (result command.Admit) = on_site w (admit_line w.site)
+answered w (result command.Join) = on_site w (join_line w.site)
+answered w (result (command.Withdraw x)) = on_site w (withdraw_line x w.site)
+answered w (result command.Plan) = plan_line w
 
 -- ---- lines
 

@@ -1,7 +1,7 @@
 -- Document 01, **The line program**: bytes that come in pieces, cut into lines, each answered where its line feed comes.
 -- Assumes nothing.
 use Rattle.std.specs.Prelude.{◌≡◌, cond, ◌||◌, List, [], ◌∷◌, ◌++◌, ℕ, ◌+◌, ◌-◌, ◌*◌, eqb, ltb, leb, length, take, Result, Ok, Err}
-use Rattle.lists.specs.Told.{Told, refusal, says}
+use Rattle.answers.specs.Answers.{Answer, refusal, result}
 use Rattle.answers.specs.Refusals.{number}
 use Rattle.answers.specs.declared.Refusal.{Refusal}
 use Rattle.lists.specs.Lists.{written}
@@ -56,20 +56,20 @@ pub record Count : Type 0 where
 abbrev pub count : ℕ → ℕ → Count
 count t p = record { taken = t; put = p }
 
-abbrev pub told_feeding : Result Fed Refusal → Told Count
-told_feeding (Ok f) = says (count f.taken f.put)
-told_feeding (Err why) = refusal (number why)
+abbrev pub answer_of_feeding : Result Fed Refusal → Answer Count
+answer_of_feeding (Ok f) = result (count f.taken f.put)
+answer_of_feeding (Err why) = refusal (number why)
 
 -- what it says; the world after it, what is held of a line and how many bytes that is; and the list of what is put out
 pub record AfterFeed : Type 0 where
-  pub told : Told Count
+  pub answer : Answer Count
   pub world : World
   pub held : List ℕ
   pub size : ℕ
   pub out : List ℕ
 
-abbrev pub after_feed : Told Count → World → List ℕ → ℕ → List ℕ → AfterFeed
-after_feed c w h m o = record { told = c; world = w; held = h; size = m; out = o }
+abbrev pub after_feed : Answer Count → World → List ℕ → ℕ → List ℕ → AfterFeed
+after_feed c w h m o = record { answer = c; world = w; held = h; size = m; out = o }
 
 -- a session's world, with the lists that it is lent
 abbrev pub world_of : Session → Memory → World
@@ -77,7 +77,7 @@ world_of s m = world (site s.current m.list.now m.table.now) m.locations.now m.t
 
 -- what a call said and left: the session, its world, the line and the list of what is put out
 abbrev pub after_call : Result Fed Refusal → Session → World → List ℕ → List ℕ → AfterFeed
-after_call r s w line out = after_feed (told_feeding r) w (take s.held line) s.held out
+after_call r s w line out = after_feed (answer_of_feeding r) w (take s.held line) s.held out
 
 -- A call of feed with a list `line`, of which the first m bytes are held. 12: more bytes are held than there can be. 4: `line` is
 -- shorter than what may be held, or `out` than the longest answer. Otherwise the piece is fed as long as there is room for the
@@ -89,11 +89,11 @@ feed_call w line m piece out =
     let s = p.progress in
     cond (ltb held_most m || ltb (length line) m) (after_feed (refusal 12) w (take m line) m out)
     (cond (ltb (length line) held_most || ltb (length out) room) (after_feed (refusal 4) w (take m line) m out)
-    (after_feed (says (count (length piece - length p.rest) (length s.text))) s.world s.held (length s.held) (written s.text out)))
+    (after_feed (result (count (length piece - length p.rest) (length s.text))) s.world s.held (length s.held) (written s.text out)))
 
 -- At the end of the input a line that is held is fed its line feed; where none is held nothing is done.
 unfoldable pub end_call : World → List ℕ → ℕ → List ℕ → AfterFeed
-end_call w line m out = cond (eqb m 0) (after_feed (says (count 0 0)) w [] 0 out) (feed_call w line m (10 ∷ []) out)
+end_call w line m out = cond (eqb m 0) (after_feed (result (count 0 0)) w [] 0 out) (feed_call w line m (10 ∷ []) out)
 
 -- Past what is held `line` is free after a call that is not refused, and so is the scratch; a refusal leaves both. They keep their
 -- lengths.

@@ -7,7 +7,7 @@ ghost use Rattle.lines.specs.InnerLines.{reply_of, HasRoom, SameList, Puts};
 
 use crate::commands;
 use crate::commands::Command;
-use crate::texts::{Answer, Text};
+use crate::texts::{Accepted, Text};
 use answers::Refusal;
 use rounds::round;
 use rounds::round::Round;
@@ -21,28 +21,28 @@ fn open(
     k: u32,
     n: u32,
     list: &mut [u32],
-) -> Result<Answer, Refusal>
+) -> Result<Accepted, Refusal>
     ensures { (t ls ts : List ℕ) → said (reply_of result ls ts) (site current.new list.new t) ≡ open_line key k n (site current.old list.old t) }
 {
     let opened = round::open(key, k, n, list)?;
     *current = Some(opened);
-    Ok(Answer::Opened)
+    Ok(Accepted::Opened)
 }
 
-fn admit(current: &mut Option<Round>, list: &mut [u32], table: &[u8]) -> Result<Answer, Refusal>
+fn admit(current: &mut Option<Round>, list: &mut [u32], table: &[u8]) -> Result<Accepted, Refusal>
     ensures { (ls ts : List ℕ) → said (reply_of result ls ts) (site current.new list.new table.now) ≡ admit_line (site current.old list.old table.now) }
 {
     let round = current.as_mut().ok_or(Refusal::Misfit)?;
     let exchange = round.admit(list, table)?;
-    Ok(Answer::Admitted(exchange))
+    Ok(Accepted::Admitted(exchange))
 }
 
-fn join(current: &mut Option<Round>, list: &[u32], table: &mut [u8]) -> Result<Answer, Refusal>
+fn join(current: &mut Option<Round>, list: &[u32], table: &mut [u8]) -> Result<Accepted, Refusal>
     ensures { (ls ts : List ℕ) → said (reply_of result ls ts) (site current.new list.now table.new) ≡ join_line (site current.old list.now table.old) }
 {
     let round = current.as_mut().ok_or(Refusal::Misfit)?;
     let slot = round.join(list, table)?;
-    Ok(Answer::Joined(slot))
+    Ok(Accepted::Joined(slot))
 }
 
 fn withdraw(
@@ -50,12 +50,12 @@ fn withdraw(
     list: &[u32],
     table: &mut [u8],
     slot: u32,
-) -> Result<Answer, Refusal>
+) -> Result<Accepted, Refusal>
     ensures { (ls ts : List ℕ) → said (reply_of result ls ts) (site current.new list.now table.new) ≡ withdraw_line slot (site current.old list.now table.old) }
 {
     let round = current.as_mut().ok_or(Refusal::Misfit)?;
     round.withdraw(list, table, slot)?;
-    Ok(Answer::Withdrawn(slot))
+    Ok(Accepted::Withdrawn(slot))
 }
 
 fn plan(
@@ -65,12 +65,12 @@ fn plan(
     locations: &mut [u32],
     terminals: &mut [u32],
     scratch: &mut [u64],
-) -> Result<Answer, Refusal>
+) -> Result<Accepted, Refusal>
     ensures { response (reply_of result locations.new terminals.new) (world (site current list.now table.now) locations.new terminals.new (length scratch.old)) ≡ plan_line (world (site current list.now table.now) locations.old terminals.old (length scratch.old)) }
 {
     let round = current.ok_or(Refusal::Misfit)?;
     round::plan(round, list, table, locations, terminals, scratch)?;
-    Ok(Answer::Planned(round.k))
+    Ok(Accepted::Planned(round.k))
 }
 
 // ---- lines
@@ -84,7 +84,7 @@ fn act(
     locations: &mut [u32],
     terminals: &mut [u32],
     scratch: &mut [u64],
-) -> Result<Answer, Refusal>
+) -> Result<Accepted, Refusal>
     ensures { response (reply_of result locations.new terminals.new) (world (site current.new list.new table.new) locations.new terminals.new (length scratch.old)) ≡ respond (world (site current.old list.old table.old) locations.old terminals.old (length scratch.old)) line.now }
 {
     match commands::parse(line)? {

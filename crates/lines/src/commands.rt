@@ -1,8 +1,8 @@
 // A line taken apart.
 ghost use Rattle.std.specs.Prelude.{◌≡◌, ◌≤◌, length};
-ghost use Rattle.answers.specs.Refusals.{told, optional};
+ghost use Rattle.answers.specs.Refusals.{answer_of, optional};
 ghost use Rattle.lines.specs.Commands.{value_of, number_of, key_of, word_alone, word_and_one, word_and_three, command_of, parse_call};
-ghost use Rattle.lines.specs.InnerLines.{told_form};
+ghost use Rattle.lines.specs.InnerLines.{answer_of_form};
 
 use answers::Refusal;
 
@@ -55,7 +55,7 @@ fn key(field: &[u8]) -> Option<u64>
 // ---- the forms, by the number of fields
 
 fn alone(word: &[u8]) -> Option<Command>
-    ensures { told_form result ≡ word_alone word.now }
+    ensures { answer_of_form result ≡ word_alone word.now }
 {
     match word {
         b"admit" => Some(Command::Admit),
@@ -66,7 +66,7 @@ fn alone(word: &[u8]) -> Option<Command>
 }
 
 fn with_one(word: &[u8], slot: &[u8]) -> Option<Command>
-    ensures { told_form result ≡ word_and_one word.now slot.now }
+    ensures { answer_of_form result ≡ word_and_one word.now slot.now }
 {
     if word != b"withdraw".as_slice() {
         return None;
@@ -76,7 +76,7 @@ fn with_one(word: &[u8], slot: &[u8]) -> Option<Command>
 }
 
 fn with_three(word: &[u8], a: &[u8], b: &[u8], c: &[u8]) -> Option<Command>
-    ensures { told_form result ≡ word_and_three word.now a.now b.now c.now }
+    ensures { answer_of_form result ≡ word_and_three word.now a.now b.now c.now }
 {
     if word != b"open".as_slice() {
         return None;
@@ -88,7 +88,7 @@ fn with_three(word: &[u8], a: &[u8], b: &[u8], c: &[u8]) -> Option<Command>
 }
 
 fn form(line: &[u8]) -> Option<Command>
-    ensures { told_form result ≡ command_of line.now }
+    ensures { answer_of_form result ≡ command_of line.now }
 {
     if line.len() > 80 {
         return None;
@@ -110,7 +110,7 @@ fn form(line: &[u8]) -> Option<Command>
 
 // What a line asks for: refusal 12.
 pub fn parse(line: &[u8]) -> Result<Command, Refusal>
-    ensures { told result ≡ parse_call line.now }
+    ensures { answer_of result ≡ parse_call line.now }
 {
     form(line).ok_or(Refusal::Misfit)
 }

@@ -10,7 +10,7 @@ use orders::consistent_reservoir::Exchange;
 
 // What is answered to a line that is not refused; to a plan the first k places of its two lists.
 #[derive(Clone, Copy, Debug, PartialEq, Eq)]
-pub enum Answer {
+pub enum Accepted {
     Opened,
     Admitted(Option<Exchange>),
     Joined(u32),
@@ -145,24 +145,24 @@ impl Text<'_> {
 
     // ---- replies
 
-    fn push_answer(&mut self, answer: Answer, locations: &[u32], terminals: &[u32])
+    fn push_answer(&mut self, answer: Accepted, locations: &[u32], terminals: &[u32])
         requires { HasRoom self.old (33 * length locations.now + 32) }
         ensures lent { SameList self.old self.new }
         ensures puts { Puts self.old (text_of (line_of answer locations.now terminals.now)) self.new }
     {
         match answer {
-            Answer::Opened => self.push_bytes(b"opened\n"),
-            Answer::Admitted(exchange) => self.push_admitted(exchange),
-            Answer::Joined(slot) => self.push_one(b"joined", slot),
-            Answer::Withdrawn(slot) => self.push_one(b"withdrawn", slot),
-            Answer::Planned(k) => self.push_plan(locations, terminals, k),
+            Accepted::Opened => self.push_bytes(b"opened\n"),
+            Accepted::Admitted(exchange) => self.push_admitted(exchange),
+            Accepted::Joined(slot) => self.push_one(b"joined", slot),
+            Accepted::Withdrawn(slot) => self.push_one(b"withdrawn", slot),
+            Accepted::Planned(k) => self.push_plan(locations, terminals, k),
         }
     }
 
     // An answer, or a refusal by its number.
     pub(crate) fn push_reply(
         &mut self,
-        reply: Result<Answer, Refusal>,
+        reply: Result<Accepted, Refusal>,
         locations: &[u32],
         terminals: &[u32],
     )

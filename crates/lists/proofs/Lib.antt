@@ -1,7 +1,5 @@
 pub mod Numbers
 pub mod Tests
-pub mod Tolds
-pub mod Spared
 pub mod Places
 pub mod Keeping
 pub mod Members
@@ -15,7 +13,6 @@ pub mod Exchanges
 pub mod Without
 pub mod Writing
 pub mod Searching
-pub mod Turns
 pub mod Inserting
 pub mod Ascending
 pub mod Listing

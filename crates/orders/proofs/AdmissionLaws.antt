@@ -12,7 +12,7 @@ use borrow.Author.Tests.{lt-ltb, le-ltb, ltb-true, ltb-false}
 use lib.Dec.{ltb}
 use lib.ListN.{length, take}
 use lib.Seq.{length-take-le}
-use Rattle.lists.specs.Told.{says}
+use Rattle.answers.specs.Answers.{result}
 use Rattle.lists.specs.Lists.{keep, below, not_below, up_to, replace, standing, last, written, smallest, Exchanges}
 use Rattle.lists.proofs.Tests.{by_below}
 use Rattle.lists.proofs.Prefixes.{up_to_long}
@@ -62,12 +62,12 @@ module _ (r : ConsistentReservoir) (l : List ℕ) (k0 : 0 < r.k) (k_le : r.k ≤
     unfolding exchange_by last kth
     exchanged h =
         let u : ℕ = standing (below (suc v)) r.k xs (length xs - 1) in
-        let e : exchange r i xs l ≡ after (says (some (v, last xs))) (reservoir_of (key_of r) r.k (v + 1) i u) (written (take u xs) l) =
+        let e : exchange r i xs l ≡ after (result (some (v, last xs))) (reservoir_of (key_of r) r.k (v + 1) i u) (written (take u xs) l) =
         by_v ∙ rw (le-ltb (length l) u h) in
         let s : v + 1 ≤ 4 ^ suc i = omega (arith, c.small) in
         let t : take u xs ≡ held_at (key_of r) (suc i) r.k (v + 1) = rw (add-one v) c.list in
         subst (λ (a : After (Option (ℕ × ℕ))). Admits r a) (sym e) (record {
-          told_is = rw v_due (ap (λ (x : ℕ). says (some (v, x))) c.out);
+          answer_is = rw v_due (ap (λ (x : ℕ). result (some (v, x))) c.out);
           key_is = refl;
           k_is = refl;
           n_is = rw v_due refl;
@@ -138,7 +138,7 @@ module _ (r : ConsistentReservoir) (l : List ℕ) (s : Kept r l) (full : r.used 
       let d : due (key_of r) r.k r.n ≡ none =
       due_none (key_of r) r.k r.n (λ u a b. grow_none (key_of r) (suc (j_of r)) r.k r.n s.k_le s.n_le k_listed (14 - j_of r) (omega arith) h u a (rw e b)) in
       record {
-        told_is = rw d refl;
+        answer_is = rw d refl;
         key_is = refl;
         k_is = refl;
         n_is = rw d refl;

@@ -10,7 +10,7 @@ use native.Mathlib.Omega.{arith}
 use lib.ListN.{length, take, get_or, take-append-drop}
 use lib.Seq.{take-length, take-take, get_or-take, length-take-le}
 use borrow.Author.Tests.{lt-ltb, le-ltb, eq-eqb, ne_eqb}
-use Rattle.lists.specs.Told.{says}
+use Rattle.answers.specs.Answers.{result}
 use Rattle.lists.specs.Lists.{below, standing, last, written}
 use Rattle.lists.proofs.Standing.{standing_le, standing_same}
 use Rattle.layers.specs.Layer.{size}
@@ -49,7 +49,7 @@ module _ (r : ConsistentReservoir) (l : List ℕ) (fit : fitting r l ≡ true) (
       (standing_same (below (v + 1)) (below (v + 1)) r.k (take (r.used - 1) l) l (r.used - 1) (λ i h. ap (below (v + 1)) (get_or-take (r.used - 1) l i 0 h)))
 
   pub here_done : (u : ℕ) → u ≡ standing (below (v + 1)) r.k l (r.used - 1)
-      → after (says (some (v, get_or l (r.used - 1) 0))) (reservoir_of (key_of r) r.k (v + 1) (j_of r) u) l ≡ exchange r (j_of r) (listed r l) l
+      → after (result (some (v, get_or l (r.used - 1) 0))) (reservoir_of (key_of r) r.k (v + 1) (j_of r) u) l ≡ exchange r (j_of r) (listed r l) l
   unfolding exchange exchange_by written last
   here_done u e =
       let z : standing (below (v + 1)) r.k (listed r l) (r.used - 1) ≡ u =
@@ -127,7 +127,7 @@ module _ (r : ConsistentReservoir) (w : Wide) (l : List ℕ)
     unfolding exchange_by
     above_refused h = sym (above_is ∙ rw (lt-ltb (length l) e h))
 
-    pub above_done : e ≤ length l → after (says (some (w.low, get_or l (r.k - 1) 0))) (reservoir_of (key_of r) r.k (w.low + 1) w.layer e) (laid_of (key_of r) w.layer e l)
+    pub above_done : e ≤ length l → after (result (some (w.low, get_or l (r.k - 1) 0))) (reservoir_of (key_of r) r.k (w.low + 1) w.layer e) (laid_of (key_of r) w.layer e l)
         ≡ exchange r w.layer (grown (key_of r) w.layer r.k (listed r l)) l
     unfolding exchange_by
     above_done h =
@@ -162,7 +162,7 @@ module _ (r : ConsistentReservoir) (l : List ℕ) (p : (fitting r l ≡ true) ×
   raise_refused h = rw (length_is, lt-ltb (length l) s.inputs h)
 
   pub raise_done : s.inputs ≤ length l
-      → after (says tt) (reservoir_of (key_of r) r.k r.n (j_of r + 1) s.inputs) (laid_of (key_of r) (j_of r + 1) s.inputs l)
+      → after (result tt) (reservoir_of (key_of r) r.k r.n (j_of r + 1) s.inputs) (laid_of (key_of r) (j_of r + 1) s.inputs l)
       ≡ grow_to r (grown (key_of r) (j_of r + 1) r.k (listed r l)) l
   unfolding grow_to
   raise_done h =
@@ -184,7 +184,7 @@ unfolding admit_call
 admit_longer r l e h = rw (e, lt-ltb r.k r.used h)
 
 pub admit_none : (r : ConsistentReservoir) (l : List ℕ) → fitting r l ≡ true → r.used ≤ r.k → wider (key_of r) r.k (j_of r) ≡ none
-    → after (says none) (reservoir_of (key_of r) r.k r.n 14 r.used) l ≡ admit_call r l
+    → after (result none) (reservoir_of (key_of r) r.k r.n 14 r.used) l ≡ admit_call r l
 unfolding admit_call
 admit_none r l e h f = rw (e, le-ltb r.k r.used h, f)
 

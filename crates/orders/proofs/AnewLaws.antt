@@ -12,10 +12,10 @@ use native.Mathlib.Omega.{arith}
 use borrow.Author.Tests.{lt-ltb, le-ltb, ltb-true}
 use lib.Dec.{ltb}
 use lib.ListN.{length}
-use Rattle.lists.specs.Told.{says}
+use Rattle.answers.specs.Answers.{result}
 use Rattle.lists.specs.Lists.{below, up_to}
 use Rattle.lists.proofs.Tests.{by_below, by_cond}
-use Rattle.lists.proofs.Tolds.{not_said, said_same}
+use Rattle.answers.proofs.AnswerLaws.{not_said, said_same}
 use Rattle.lists.proofs.Replacing.{replace_length}
 use Rattle.lists.proofs.Searching.{by_first}
 use Rattle.orders.specs.declared.consistent_reservoir.ConsistentReservoir.{ConsistentReservoir}
@@ -121,8 +121,8 @@ module _ (r : ConsistentReservoir) (l : List ℕ) (s : Kept r l) where
 module _ (r : ConsistentReservoir) (l : List ℕ) where
   -- at layer i it is refused 4, or a number comes in
   abbrev AtLayer : Option ℕ → After (Option (ℕ × ℕ)) → Type 0
-  AtLayer none a = a ≡ after (says none) (reservoir_of (key_of r) r.k r.n 14 r.used) l
-  AtLayer (some i) a = (a ≡ refused 4 r l) ⊎ ((p : ℕ × ℕ) × (a.told ≡ says (some p)))
+  AtLayer none a = a ≡ after (result none) (reservoir_of (key_of r) r.k r.n 14 r.used) l
+  AtLayer (some i) a = (a ≡ refused 4 r l) ⊎ ((p : ℕ × ℕ) × (a.answer ≡ result (some p)))
 
   exchange_at : (i : ℕ) (xs : List ℕ) → AtLayer (some i) (exchange r i xs l)
   unfolding exchange exchange_by
@@ -146,7 +146,7 @@ module _ (r : ConsistentReservoir) (l : List ℕ) where
 -- shorter than an open at v+1 asks.
 pub data AdmitAnew (r : ConsistentReservoir) (l : List ℕ) (b : Bool) (a : After (Option (ℕ × ℕ))) : Type 0 where
   finds_short : (v : ℕ) → due (key_of r) r.k r.n ≡ some v → length l < length (opening (key_of r) r.k (suc v)) → a ≡ refused 4 r l → AdmitAnew r l b a
-  finds_none : due (key_of r) r.k r.n ≡ none → a ≡ after (says none) (reservoir_of (key_of r) r.k r.n 14 r.used) l → Anew a.reservoir a.list true → AdmitAnew r l b a
+  finds_none : due (key_of r) r.k r.n ≡ none → a ≡ after (result none) (reservoir_of (key_of r) r.k r.n 14 r.used) l → Anew a.reservoir a.list true → AdmitAnew r l b a
   brings_in : (v : ℕ) → due (key_of r) r.k r.n ≡ some v → length (opening (key_of r) r.k (suc v)) ≤ length l → b ≡ false
       → Admits r a → Anew a.reservoir a.list false → AdmitAnew r l b a
 
@@ -159,16 +159,16 @@ module _ (r : ConsistentReservoir) (l : List ℕ) (s : Kept r l) (b : Bool) (now
 
   -- none is due
   module _ (d : due (key_of r) r.k r.n ≡ none) where
-    says_none : a.told ≡ says none
+    says_none : a.answer ≡ result none
     says_none =
         ⊎_elim
         (λ (h : Short r l a). absurd (none_not h.v (sym d ∙ h.is_due)))
-        (λ (h : Admits r a). h.told_is ∙ rw d refl)
+        (λ (h : Admits r a). h.answer_is ∙ rw d refl)
         (admit_kept r l s)
 
-    leaves_none : (o : Option ℕ) → AtLayer r l o a → a ≡ after (says none) (reservoir_of (key_of r) r.k r.n 14 r.used) l
+    leaves_none : (o : Option ℕ) → AtLayer r l o a → a ≡ after (result none) (reservoir_of (key_of r) r.k r.n 14 r.used) l
     leaves_none none e = e
-    leaves_none (some i) (inl e) = not_said 4 none (sym (ap (λ (z : After (Option (ℕ × ℕ))). z.told) e) ∙ says_none)
+    leaves_none (some i) (inl e) = not_said 4 none (sym (ap (λ (z : After (Option (ℕ × ℕ))). z.answer) e) ∙ says_none)
     leaves_none (some i) (inr e) = absurd (none_not_pair e.0 (said_same none (some e.0) (sym says_none ∙ e.1)))
 
     none_due : AdmitAnew r l b a
@@ -189,7 +189,7 @@ module _ (r : ConsistentReservoir) (l : List ℕ) (s : Kept r l) (b : Bool) (now
     layer_now : Admits r a → (o : Option ℕ) → ends_at r ≡ o → AtLayer r l o a → j_of a.reservoir ≡ layer_of (suc v)
     layer_now h none e q =
         absurd (none_not_pair (v, kth (key_of r) r.k r.n)
-        (said_same none (some (v, kth (key_of r) r.k r.n)) (sym (ap (λ (z : After (Option (ℕ × ℕ))). z.told) q) ∙ h.told_is ∙ rw d refl)))
+        (said_same none (some (v, kth (key_of r) r.k r.n)) (sym (ap (λ (z : After (Option (ℕ × ℕ))). z.answer) q) ∙ h.answer_is ∙ rw d refl)))
     layer_now h (some i) e q = h.layer_is ∙ rw e (ends_layer r l s b now v d i e)
 
     lists_now : Admits r a → Anew a.reservoir a.list false

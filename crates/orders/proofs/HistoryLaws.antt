@@ -11,10 +11,10 @@ use native.Mathlib.Omega.{arith}
 use borrow.Author.Tests.{lt-ltb, le-ltb, ne_eqb, eqb-false}
 use lib.Dec.{eqb}
 use lib.ListN.{length, take}
-use Rattle.lists.specs.Told.{says}
+use Rattle.answers.specs.Answers.{result}
 use Rattle.lists.specs.Lists.{keep, below, written}
 use Rattle.lists.proofs.Tests.{by_test, by_below}
-use Rattle.lists.proofs.Tolds.{not_said, said_same}
+use Rattle.answers.proofs.AnswerLaws.{not_said, said_same}
 use Rattle.orders.specs.declared.consistent_reservoir.ConsistentReservoir.{ConsistentReservoir}
 use Rattle.orders.specs.Orders.{P}
 use Rattle.orders.specs.Reservoirs.{grown, held}
@@ -40,11 +40,11 @@ module _ (r : ConsistentReservoir) (l : List ℕ) where
   raise y full low room =
       let s : Fits r l = fits_parts r l y in
       let j1 : j_of r + 1 ≤ 14 = omega (arith, s.shape.j_low) in
-      let e : grow_layer_call r l ≡ after (says tt) (reservoir_of (key_of r) r.k r.n (j_of r + 1) (length next)) (written next l) =
+      let e : grow_layer_call r l ≡ after (result tt) (reservoir_of (key_of r) r.k r.n (j_of r + 1) (length next)) (written next l) =
       rw (y, le-ltb r.k r.used full, ne_eqb (j_of r) 14 low, le-ltb (length l) (length next) room) in
       let nj : r.n ≤ 4 ^ suc (j_of r + 1) = omega (arith, s.shape.n_le, pow_up (suc (j_of r)) (suc (j_of r + 1)) (omega arith)) in
       subst (λ (a : After (Unit {0})). Grows r l a) (sym e) (record {
-        told_is = refl;
+        answer_is = refl;
         key_is = refl;
         k_is = refl;
         n_is = refl;
@@ -109,16 +109,16 @@ all_reached key k [] t s = s
 all_reached key k (c ∷ cs) t s = all_reached key k cs (step_by c t) (step_reached key k c t s)
 
 -- what an open that was not refused says and leaves
-pub accepted : (k n key : ℕ) (l : List ℕ) (r : ConsistentReservoir) (l' : List ℕ) → open_call k n key l ≡ after_open (says r) l' → Opened key k n r l'
+pub accepted : (k n key : ℕ) (l : List ℕ) (r : ConsistentReservoir) (l' : List ℕ) → open_call k n key l ≡ after_open (result r) l' → Opened key k n r l'
 accepted k n key l r l' =
-    open_kept (λ o. o ≡ after_open (says r) l' → Opened key k n r l') k n key l
-    (λ c q. not_said c r (ap (λ (o : AfterOpen). o.told) q))
-    (λ r₁ l₁ o q. let p : r₁ ≡ r = said_same r₁ r (ap (λ (z : AfterOpen). z.told) q) in
+    open_kept (λ o. o ≡ after_open (result r) l' → Opened key k n r l') k n key l
+    (λ c q. not_said c r (ap (λ (o : AfterOpen). o.answer) q))
+    (λ r₁ l₁ o q. let p : r₁ ≡ r = said_same r₁ r (ap (λ (z : AfterOpen). z.answer) q) in
     let m : l₁ ≡ l' = ap (λ (z : AfterOpen). z.list) q in
     subst (λ (z : List ℕ). Opened key k n r z) m (subst (λ (z : ConsistentReservoir). Opened key k n z l₁) p o))
 
 -- from an accepted open, after any list of calls
-module _ (k n key : ℕ) (l : List ℕ) (t : ReservoirState) (is_open : open_call k n key l ≡ after_open (says t.reservoir) t.list) (cs : List Call) where
+module _ (k n key : ℕ) (l : List ℕ) (t : ReservoirState) (is_open : open_call k n key l ≡ after_open (result t.reservoir) t.list) (cs : List Call) where
   abbrev now : ReservoirState
   now = after_all cs t
 

@@ -32,7 +32,7 @@ either P true x y p q = p
 either P false x y p q = q
 
 -- an open
-pub open_spares : (k n key : ℕ) (l : List ℕ) → OpenedPast l (open_call k n key l).told (open_call k n key l).list
+pub open_spares : (k n key : ℕ) (l : List ℕ) → OpenedPast l (open_call k n key l).answer (open_call k n key l).list
 unfolding open_call
 open_spares k n key l =
     either spares (ltb (2 ^ 30) n) _ _ refl
@@ -41,7 +41,7 @@ open_spares k n key l =
     (either spares (ltb (length l) (length (opening key k n))) _ _ refl (written_rest (opening key k n) l (length (opening key k n)) refl))))
   where
     spares : AfterOpen → Type 0
-    spares o = OpenedPast l o.told o.list
+    spares o = OpenedPast l o.answer o.list
 
 exchange_spares : (r : ConsistentReservoir) (i : ℕ) (xs l : List ℕ) → PastUsed l (exchange r i xs l)
 unfolding exchange exchange_by

@@ -8,7 +8,7 @@ use native.Mathlib.Numerals.{add-one}
 use native.Mathlib.Omega.{arith}
 use lib.ListN.{length}
 use borrow.Author.Tests.{lt-ltb, le-ltb, eq-eqb, ne_eqb}
-use Rattle.lists.specs.Told.{Told, refusal, says}
+use Rattle.answers.specs.Answers.{Answer, refusal, result}
 use Rattle.lists.specs.Lists.{keep, below, written}
 use Rattle.orders.specs.declared.consistent_reservoir.ConsistentReservoir.{ConsistentReservoir}
 use Rattle.orders.specs.declared.scans.Scan.{Scan}
@@ -26,15 +26,15 @@ pub record Opens (k n : ℕ) : Type 0 where
   pub some_k : k ≡ 0 → ⊥
   pub few : k ≤ n
 
-pub test_yes : (k n : ℕ) → says tt ≡ test_of k n → Opens k n
+pub test_yes : (k n : ℕ) → result tt ≡ test_of k n → Opens k n
 unfolding test_of
 test_yes k n e =
     by_below (2 ^ 30) n
-    (λ l. absurd (let z : says tt ≡ refusal 1 = rw (lt-ltb (2 ^ 30) n l) at e in cc))
+    (λ l. absurd (let z : result tt ≡ refusal 1 = rw (lt-ltb (2 ^ 30) n l) at e in cc))
     (λ m. by_same k 0
-    (λ z. absurd (let w : says tt ≡ refusal 2 = rw (le-ltb (2 ^ 30) n m, eq-eqb k 0 z) at e in cc))
+    (λ z. absurd (let w : result tt ≡ refusal 2 = rw (le-ltb (2 ^ 30) n m, eq-eqb k 0 z) at e in cc))
     (λ z. by_below n k
-    (λ l. absurd (let w : says tt ≡ refusal 3 = rw (le-ltb (2 ^ 30) n m, ne_eqb k 0 z, lt-ltb n k l) at e in cc))
+    (λ l. absurd (let w : result tt ≡ refusal 3 = rw (le-ltb (2 ^ 30) n m, ne_eqb k 0 z, lt-ltb n k l) at e in cc))
     (λ h. record { n_small = m; some_k = z; few = h })))
 
 -- a test that fails is the refusal of the open
@@ -42,15 +42,15 @@ pub test_no : (key k n c : ℕ) (l : List ℕ) → refusal c ≡ test_of k n →
 unfolding test_of open_call short_refusal
 test_no key k n c l e =
     by_below (2 ^ 30) n
-    (λ u. let z : ◌≡◌ {A = Told (Unit {0})} (refusal c) (refusal 1) = rw (lt-ltb (2 ^ 30) n u) at e in
+    (λ u. let z : ◌≡◌ {A = Answer (Unit {0})} (refusal c) (refusal 1) = rw (lt-ltb (2 ^ 30) n u) at e in
     let f : c ≡ 1 = cc in (rw (lt-ltb (2 ^ 30) n u) f, rw (lt-ltb (2 ^ 30) n u, f)))
     (λ m. by_same k 0
-    (λ z. let w : ◌≡◌ {A = Told (Unit {0})} (refusal c) (refusal 2) = rw (le-ltb (2 ^ 30) n m, eq-eqb k 0 z) at e in
+    (λ z. let w : ◌≡◌ {A = Answer (Unit {0})} (refusal c) (refusal 2) = rw (le-ltb (2 ^ 30) n m, eq-eqb k 0 z) at e in
     let f : c ≡ 2 = cc in (rw (le-ltb (2 ^ 30) n m, eq-eqb k 0 z) f, rw (le-ltb (2 ^ 30) n m, eq-eqb k 0 z, f)))
     (λ z. by_below n k
-    (λ u. let w : ◌≡◌ {A = Told (Unit {0})} (refusal c) (refusal 3) = rw (le-ltb (2 ^ 30) n m, ne_eqb k 0 z, lt-ltb n k u) at e in
+    (λ u. let w : ◌≡◌ {A = Answer (Unit {0})} (refusal c) (refusal 3) = rw (le-ltb (2 ^ 30) n m, ne_eqb k 0 z, lt-ltb n k u) at e in
     let f : c ≡ 3 = cc in (rw (le-ltb (2 ^ 30) n m, ne_eqb k 0 z, lt-ltb n k u) f, rw (le-ltb (2 ^ 30) n m, ne_eqb k 0 z, lt-ltb n k u, f)))
-    (λ h. absurd (let w : ◌≡◌ {A = Told (Unit {0})} (refusal c) (says tt) = rw (le-ltb (2 ^ 30) n m, ne_eqb k 0 z, le-ltb n k h) at e in cc))))
+    (λ h. absurd (let w : ◌≡◌ {A = Answer (Unit {0})} (refusal c) (result tt) = rw (le-ltb (2 ^ 30) n m, ne_eqb k 0 z, le-ltb n k h) at e in cc))))
 
 pub short_four : (k n : ℕ) → Opens k n → 4 ≡ short_refusal k n
 unfolding short_refusal
@@ -75,7 +75,7 @@ module _ (key k n : ℕ) (l : List ℕ) (n_small : n ≤ 2 ^ 30) (some_k : k ≡
   unfolding open_call
   open_refused h = rw (le-ltb (2 ^ 30) n n_small, ne_eqb k 0 some_k, le-ltb n k few, ← inputs_open, lt-ltb (length l) s.inputs h)
 
-  pub open_done : s.inputs ≤ length l → after_open (says (reservoir_of key k n j s.inputs)) (placed key (j + 1) s.inputs l) ≡ open_call k n key l
+  pub open_done : s.inputs ≤ length l → after_open (result (reservoir_of key k n j s.inputs)) (placed key (j + 1) s.inputs l) ≡ open_call k n key l
   unfolding open_call
   open_done h =
       rw (
@@ -100,6 +100,6 @@ unfolding sample_call
 sample_short r l o e h = rw (e, lt-ltb (length o) r.k h)
 
 pub sample_done : (r : ConsistentReservoir) (l o : List ℕ) → fitting r l ≡ true → r.k ≤ length o
-    → after_sample (says tt) (written (keep (below r.n) (listed r l)) o) ≡ sample_call r l o
+    → after_sample (result tt) (written (keep (below r.n) (listed r l)) o) ≡ sample_call r l o
 unfolding sample_call sample
 sample_done r l o e h = rw (e, le-ltb (length o) r.k h)

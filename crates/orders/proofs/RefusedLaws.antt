@@ -9,12 +9,12 @@ use Prim.Native.Nat.{ℕ, zero, suc, ◌-◌, ◌^◌, ◌≤◌}
 use borrow.Author.Tests.{le-ltb}
 use lib.Dec.{ltb, eqb}
 use lib.ListN.{length}
-use Rattle.lists.specs.Told.{Told, map_told}
-use Rattle.lists.specs.Steps.{Step}
+use Rattle.answers.specs.Answers.{Answer, map_answer}
+use Rattle.answers.specs.Steps.{Step}
 use Rattle.lists.specs.Lists.{below, same, has, every}
-use Rattle.lists.specs.Refusing.{Among, Spares}
+use Rattle.answers.specs.Refusing.{Among, Spares}
 use Rattle.lists.proofs.Tests.{by_cond}
-use Rattle.lists.proofs.Spared.{spared_within}
+use Rattle.answers.proofs.Spared.{spared_within}
 use Rattle.orders.specs.declared.consistent_permutation.ConsistentPermutation.{ConsistentPermutation}
 use Rattle.orders.specs.declared.consistent_reservoir.ConsistentReservoir.{ConsistentReservoir}
 use Rattle.layers.specs.Layer.{size}
@@ -59,8 +59,8 @@ module _ (o : ConsistentPermutation) where
   walk_new_refuses =
       by_cond Refused (Order.within o.counters) _ _ (λ fits. by_cond Refused (ltb (2 ^ 30) o.n) _ _ (λ above. refl) (λ not. tt)) (λ unfit. refl)
     where
-      Refused : Told (Unit {0}) → Type 0
-      Refused t = Among walk_new_refusals (map_told (λ u. o) t)
+      Refused : Answer (Unit {0}) → Type 0
+      Refused t = Among walk_new_refusals (map_answer (λ u. o) t)
 
   -- an order that is walked passes the tests, as the ghost fields of `OrderWalk` say: 1 is not left
   pub walk_refused_12 : Order.within o.counters ≡ true → o.n ≤ 2 ^ 30 → let s = Order.next_call o in Spares (12 ∷ []) s.said o s.walk
@@ -80,7 +80,7 @@ short_refuses k n =
     Is : ℕ → Type 0
     Is w = has w open_refusals ≡ true
 
-pub open_refuses : (k n key : ℕ) (l : List ℕ) → let a = open_call k n key l in Spares open_refusals a.told l a.list
+pub open_refuses : (k n key : ℕ) (l : List ℕ) → let a = open_call k n key l in Spares open_refusals a.answer l a.list
 unfolding open_call has same
 open_refuses k n key l =
     by_cond Spared (ltb (2 ^ 30) n) _ _ (λ above. (refl, refl))
@@ -89,11 +89,11 @@ open_refuses k n key l =
     (λ m. by_cond Spared (ltb (length l) (length (opening key k n))) _ _ (λ short. (refl, refl)) (λ long. tt))))
   where
     Spared : AfterOpen → Type 0
-    Spared a = Spares open_refusals a.told l a.list
+    Spared a = Spares open_refusals a.answer l a.list
 
 module _ (r : ConsistentReservoir) (l : List ℕ) where
   abbrev Spared : List ℕ → {A : Type 0} → After A → Type 0
-  Spared ws a = Spares ws a.told (after a.told r l) a
+  Spared ws a = Spares ws a.answer (after a.answer r l) a
 
   exchange_refuses : (i : ℕ) (xs : List ℕ) → Spared admit_refusals (exchange r i xs l)
   unfolding exchange exchange_by has same
@@ -103,14 +103,14 @@ module _ (r : ConsistentReservoir) (l : List ℕ) where
   wider_refuses none = tt
   wider_refuses (some i) = exchange_refuses i _
 
-  pub admit_refuses : let a = admit_call r l in Spares admit_refusals a.told (after a.told r l) a
+  pub admit_refuses : let a = admit_call r l in Spares admit_refusals a.answer (after a.answer r l) a
   unfolding admit_call has same
   admit_refuses =
       by_cond (Spared admit_refusals) (fitting r l) _ _
       (λ fits. by_cond (Spared admit_refusals) (ltb r.k r.used) _ _ (λ more. exchange_refuses _ _) (λ same. wider_refuses (wider (key_of r) r.k (j_of r))))
       (λ unfit. (refl, refl))
 
-  pub grow_layer_refuses : let a = grow_layer_call r l in Spares grow_layer_refusals a.told (after a.told r l) a
+  pub grow_layer_refuses : let a = grow_layer_call r l in Spares grow_layer_refusals a.answer (after a.answer r l) a
   unfolding grow_layer_call grow_to has same
   grow_layer_refuses =
       by_cond (Spared grow_layer_refusals) (fitting r l) _ _
@@ -119,7 +119,7 @@ module _ (r : ConsistentReservoir) (l : List ℕ) where
       (λ not. by_cond (Spared grow_layer_refusals) (ltb (length l) _) _ _ (λ short. (refl, refl)) (λ long. tt))))
       (λ unfit. (refl, refl))
 
-  pub sample_refuses : (out : List ℕ) → let a = sample_call r l out in Spares sample_refusals a.told out a.out
+  pub sample_refuses : (out : List ℕ) → let a = sample_call r l out in Spares sample_refusals a.answer out a.out
   unfolding sample_call has same
   sample_refuses out =
       by_cond SampleSpared (fitting r l) _ _
@@ -127,4 +127,4 @@ module _ (r : ConsistentReservoir) (l : List ℕ) where
       (λ unfit. (refl, refl))
     where
       SampleSpared : AfterSample → Type 0
-      SampleSpared a = Spares sample_refusals a.told out a.out
+      SampleSpared a = Spares sample_refusals a.answer out a.out

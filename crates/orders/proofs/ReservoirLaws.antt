@@ -10,7 +10,7 @@ use borrow.Author.Tests.{lt-ltb, le-leb, eq-eqb, ltb-false, eqb-false}
 use lib.Dec.{ltb, eqb}
 use lib.ListN.{length, take, drop, length-append}
 use lib.Seq.{take_at, length-take-le}
-use Rattle.lists.specs.Told.{refusal, says}
+use Rattle.answers.specs.Answers.{refusal, result}
 use Rattle.lists.specs.Lists.{keep, below, count_below, every, up_to, last, written}
 use Rattle.lists.proofs.Tests.{below→lt, by_test}
 use Rattle.lists.proofs.Keeping.{every_all}
@@ -119,7 +119,7 @@ opening_held key k n h =
 
 -- any property of what an open says and leaves, by cases: a refusal leaves the list
 pub open_kept : (Q : AfterOpen → Type 0) (k n key : ℕ) (l : List ℕ) → ((c : ℕ) → Q (after_open (refusal c) l))
-    → ((r : ConsistentReservoir) (l' : List ℕ) → Opened key k n r l' → Q (after_open (says r) l')) → Q (open_call k n key l)
+    → ((r : ConsistentReservoir) (l' : List ℕ) → Opened key k n r l' → Q (after_open (result r) l')) → Q (open_call k n key l)
 unfolding open_call
 open_kept Q k n key l out in' =
     by_test (ltb (2 ^ 30) n)

@@ -4,7 +4,7 @@
 -- Assumes nothing.
 use Rattle.std.specs.Prelude.{◌≡◌, ◌⊎◌, true, false, cond, List, ℕ, suc, ◌+◌, ◌^◌, ◌≤◌, ◌<◌, ltb, length, drop}
 use Rattle.std.proofs.Math.Option.{Option, none, some, get_or}
-use Rattle.lists.specs.Told.{Told, refusal, says}
+use Rattle.answers.specs.Answers.{Answer, refusal, result}
 use Rattle.lists.specs.Lists.{Exchanges}
 use Rattle.orders.specs.declared.consistent_reservoir.ConsistentReservoir.{ConsistentReservoir}
 use Rattle.orders.specs.Orders.{layer_of}
@@ -82,7 +82,7 @@ pub record Short (r : ConsistentReservoir) (l : List ℕ) (a : After (Option (�
 -- what an accepted admit says and leaves, by the number that is due
 pub record Admits (r : ConsistentReservoir) (a : After (Option (ℕ × ℕ))) : Type 0 where
   -- "in is v, out the k-th of P(n)"; "With no such v: none."
-  pub told_is : a.told ≡ says (in_and_out (key_of r) r.k r.n (due (key_of r) r.k r.n))
+  pub answer_is : a.answer ≡ result (in_and_out (key_of r) r.k r.n (due (key_of r) r.k r.n))
   -- "key, k .. as opened", "n becomes v+1"
   pub key_is : key_of a.reservoir ≡ key_of r
   pub k_is : a.reservoir.k ≡ r.k
@@ -97,9 +97,9 @@ abbrev pub PastUsed : {A : Type 0} → List ℕ → After A → Type 0
 PastUsed l a = drop a.reservoir.used a.list ≡ drop a.reservoir.used l
 
 -- the same of an open, whose refusal leaves the whole list
-abbrev pub OpenedPast : List ℕ → Told ConsistentReservoir → List ℕ → Type 0
+abbrev pub OpenedPast : List ℕ → Answer ConsistentReservoir → List ℕ → Type 0
 OpenedPast l (refusal c) l' = l' ≡ l
-OpenedPast l (says r) l' = drop r.used l' ≡ drop r.used l
+OpenedPast l (result r) l' = drop r.used l' ≡ drop r.used l
 
 -- ---- the whole claim
 
@@ -123,7 +123,7 @@ pub record Admission (key k : ℕ) (r : ConsistentReservoir) (l : List ℕ) (a :
 -- from an accepted open, after any list of admits and grow_layers, refused ones among them
 abbrev pub AdmissionHolds : Type 0
 AdmissionHolds =
-    (k n key : ℕ) (l : List ℕ) (t : ReservoirState) → open_call k n key l ≡ after_open (says t.reservoir) t.list → (cs : List Call)
+    (k n key : ℕ) (l : List ℕ) (t : ReservoirState) → open_call k n key l ≡ after_open (result t.reservoir) t.list → (cs : List Call)
     → let now = after_all cs t in
     Admission key k now.reservoir now.list (admit_call now.reservoir now.list)
 
@@ -131,7 +131,7 @@ AdmissionHolds =
 
 -- what an accepted growth leaves: the same key, k, n and sample, at the next layer; of a record reached from open such a record
 pub record Grows (r : ConsistentReservoir) (l : List ℕ) (a : After (Unit {0})) : Type 0 where
-  pub told_is : a.told ≡ says tt
+  pub answer_is : a.answer ≡ result tt
   pub key_is : key_of a.reservoir ≡ key_of r
   pub k_is : a.reservoir.k ≡ r.k
   pub n_is : a.reservoir.n ≡ r.n

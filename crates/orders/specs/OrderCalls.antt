@@ -2,8 +2,8 @@
 -- Assumes nothing.
 use Rattle.std.specs.Prelude.{Bool, cond, ◌&&◌, ◌||◌, List, ℕ, zero, suc, ◌-◌, ◌^◌, ltb, leb, eqb}
 use Rattle.std.proofs.Math.Option.{Option, none, some}
-use Rattle.lists.specs.Told.{Told, refusal, says, map_told}
-use Rattle.lists.specs.Steps.{Step}
+use Rattle.answers.specs.Answers.{Answer, refusal, result, map_answer}
+use Rattle.answers.specs.Steps.{Step}
 use Rattle.lists.specs.Lists.{below, zero_to, every}
 use Rattle.layers.specs.Layer.{size}
 use Rattle.orders.specs.declared.consistent_permutation.ConsistentPermutation.{ConsistentPermutation}
@@ -19,13 +19,13 @@ key_of o = o.master_key
 -- ---- new
 
 -- 1: "n above 2^30"
-unfoldable pub new_call : ℕ → ℕ → Told ConsistentPermutation
-new_call n key = cond (ltb (2 ^ 30) n) (refusal 1) (says (order_of key n none_counted))
+unfoldable pub new_call : ℕ → ℕ → Answer ConsistentPermutation
+new_call n key = cond (ltb (2 ^ 30) n) (refusal 1) (result (order_of key n none_counted))
 
 -- ---- next
 
 -- what it says, and the order after it
-abbrev pub step : Told (Option ℕ) → ConsistentPermutation → Step ConsistentPermutation
+abbrev pub step : Answer (Option ℕ) → ConsistentPermutation → Step ConsistentPermutation
 step t o = record { said = t; walk = o }
 
 -- 12: "any of the fifteen counters above its layer's size"
@@ -40,12 +40,12 @@ meets key (suc j) cs = leb (size (suc j)) (counter cs (suc j)) || (zero_top (suc
 -- "what the layer of n gives until its counter is 4^(j+1), numbers of n or more dropped": the first of it, where c inputs of
 -- the layer are left. A refusal leaves the order as it was.
 abbrev pub first_of : ConsistentPermutation → ℕ → ℕ → List ℕ → Step ConsistentPermutation
-first_of o j zero cs = step (says none) (order_of (key_of o) o.n cs)
+first_of o j zero cs = step (result none) (order_of (key_of o) o.n cs)
 first_of o j (suc c) cs =
     let d = next_number (key_of o) j cs in
     let later = first_of o j c d.counters in
     cond (meets (key_of o) j cs) (step (refusal 12) o)
-    (cond (below o.n d.number) (step (says (some d.number)) (order_of (key_of o) o.n d.counters)) later)
+    (cond (below o.n d.number) (step (result (some d.number)) (order_of (key_of o) o.n d.counters)) later)
 
 -- "A next for n = 0 says none and changes no counter."
 unfoldable pub next_call : ConsistentPermutation → Step ConsistentPermutation
@@ -53,16 +53,16 @@ next_call o =
     let j = layer_of o.n in
     cond (within o.counters)
     (cond (ltb (2 ^ 30) o.n) (step (refusal 1) o)
-    (cond (eqb o.n 0) (step (says none) o)
+    (cond (eqb o.n 0) (step (result none) o)
     (first_of o j (size j - counter o.counters j) o.counters)))
     (step (refusal 12) o)
 
 -- ---- many calls of next: the tests that come before the first output are made once
 
 -- 12: "any of the fifteen counters above its layer's size"; 1: "n above 2^30"
-unfoldable pub tested : ConsistentPermutation → Told (Unit {0})
-tested o = cond (within o.counters) (cond (ltb (2 ^ 30) o.n) (refusal 1) (says tt)) (refusal 12)
+unfoldable pub tested : ConsistentPermutation → Answer (Unit {0})
+tested o = cond (within o.counters) (cond (ltb (2 ^ 30) o.n) (refusal 1) (result tt)) (refusal 12)
 
 -- the order, where it may be walked
-abbrev pub walk_new_call : ConsistentPermutation → Told ConsistentPermutation
-walk_new_call o = map_told (λ u. o) (tested o)
+abbrev pub walk_new_call : ConsistentPermutation → Answer ConsistentPermutation
+walk_new_call o = map_answer (λ u. o) (tested o)

@@ -3,7 +3,7 @@
 use Rattle.std.specs.Prelude.{Result, Ok, Err, Bool, cond, ◌&&◌, List, ℕ, ◌+◌, ◌-◌, ◌^◌, ltb, leb, eqb, length, take}
 use Rattle.std.specs.Prelude as rust
 use Rattle.std.proofs.Math.Option.{Option, none, some}
-use Rattle.lists.specs.Told.{Told, refusal, says}
+use Rattle.answers.specs.Answers.{Answer, refusal, result}
 use Rattle.answers.specs.declared.Refusal.{Refusal}
 use Rattle.answers.specs.Refusals.{number}
 use Rattle.lists.specs.Lists.{keep, below, every, standing, last, written}
@@ -39,11 +39,11 @@ fitting r l =
 
 -- what an open says, and the list after it. There is a record only where it says one.
 pub record AfterOpen : Type 0 where
-  pub told : Told ConsistentReservoir
+  pub answer : Answer ConsistentReservoir
   pub list : List ℕ
 
-abbrev pub after_open : Told ConsistentReservoir → List ℕ → AfterOpen
-after_open t l = record { told = t; list = l }
+abbrev pub after_open : Answer ConsistentReservoir → List ℕ → AfterOpen
+after_open t l = record { answer = t; list = l }
 
 abbrev pub reservoir_of : ℕ → ℕ → ℕ → ℕ → ℕ → ConsistentReservoir
 reservoir_of key k n j u = record { master_key = key; k = k; n = n; j_max = j; used = u }
@@ -56,7 +56,7 @@ open_call k n key l =
     (cond (eqb k 0) (after_open (refusal 2) l)
     (cond (ltb n k) (after_open (refusal 3) l)
     (cond (ltb (length l) (length xs)) (after_open (refusal 4) l)
-    (after_open (says (reservoir_of key k n (layer_of n) (length xs))) (written xs l)))))
+    (after_open (result (reservoir_of key k n (layer_of n) (length xs))) (written xs l)))))
 
 -- "Order: .. 1, 2, 3, .. 4": the refusal of an open with k of n for which some memory is too short, whatever it is
 unfoldable pub short_refusal : ℕ → ℕ → ℕ
@@ -66,29 +66,29 @@ short_refusal k n = cond (ltb (2 ^ 30) n) 1 (cond (eqb k 0) 2 (cond (ltb n k) 3 
 
 -- what a call on a record says, and the record and the list after it
 pub record After (A : Type 0) : Type 0 where
-  pub told : Told A
+  pub answer : Answer A
   pub reservoir : ConsistentReservoir
   pub list : List ℕ
 
-abbrev pub after : {A : Type 0} → Told A → ConsistentReservoir → List ℕ → After A
-after t r l = record { told = t; reservoir = r; list = l }
+abbrev pub after : {A : Type 0} → Answer A → ConsistentReservoir → List ℕ → After A
+after t r l = record { answer = t; reservoir = r; list = l }
 
 -- a refusal changes nothing
 abbrev pub refused : {A : Type 0} → ℕ → ConsistentReservoir → List ℕ → After A
 refused c r l = after (refusal c) r l
 
 -- the location that comes in and the one that goes out, none, or the refusal's number
-abbrev pub told_exchange : Result (rust.Option Exchange) Refusal → Told (Option (ℕ × ℕ))
-told_exchange (Ok (rust.Some e)) = says (some (e.enters, e.leaves))
-told_exchange (Ok rust.None) = says none
-told_exchange (Err why) = refusal (number why)
+abbrev pub answer_of_exchange : Result (rust.Option Exchange) Refusal → Answer (Option (ℕ × ℕ))
+answer_of_exchange (Ok (rust.Some e)) = result (some (e.enters, e.leaves))
+answer_of_exchange (Ok rust.None) = result none
+answer_of_exchange (Err why) = refusal (number why)
 
 -- An exchange at layer i, where xs is listed, by v, after which u places stand. 4: "a lent list shorter than .. the used length
 -- that the call would end with".
 unfoldable pub exchange_by : ConsistentReservoir → ℕ → List ℕ → List ℕ → ℕ → ℕ → After (Option (ℕ × ℕ))
 exchange_by r i xs l v u =
     cond (ltb (length l) u) (refused 4 r l)
-    (after (says (some (v, last xs))) (reservoir_of (key_of r) r.k (v + 1) i u) (written (take u xs) l))
+    (after (result (some (v, last xs))) (reservoir_of (key_of r) r.k (v + 1) i u) (written (take u xs) l))
 
 -- "the last listed number goes out; the smallest listed number not below n comes in; n becomes that plus 1; then last numbers
 -- not below n are dropped while more than k stand."
@@ -99,7 +99,7 @@ exchange r i xs l =
 
 -- "With no such i the answer is none, j becomes 14, the rest stands."
 abbrev pub admit_at : ConsistentReservoir → List ℕ → Option ℕ → After (Option (ℕ × ℕ))
-admit_at r l none = after (says none) (reservoir_of (key_of r) r.k r.n 14 r.used) l
+admit_at r l none = after (result none) (reservoir_of (key_of r) r.k r.n 14 r.used) l
 admit_at r l (some i) = exchange r i (grown (key_of r) i r.k (listed r l)) l
 
 -- "Admit, if the used length exceeds k: .. If it equals k: layers j+1, j+2, .. are tried."
@@ -115,7 +115,7 @@ admit_call r l =
 unfoldable pub grow_to : ConsistentReservoir → List ℕ → List ℕ → After (Unit {0})
 grow_to r xs l =
     cond (ltb (length l) (length xs)) (refused 4 r l)
-    (after (says tt) (reservoir_of (key_of r) r.k r.n (j_of r + 1) (length xs)) (written xs l))
+    (after (result tt) (reservoir_of (key_of r) r.k r.n (j_of r + 1) (length xs)) (written xs l))
 
 -- "`grow_layer`: the same step to layer j+1, only for used length k." 7: "layer growth with used length above k", 8: "the
 -- same at layer 14".
@@ -131,15 +131,15 @@ grow_layer_call r l =
 
 -- what `reservoir` says, and the other list after it
 pub record AfterSample : Type 0 where
-  pub told : Told (Unit {0})
+  pub answer : Answer (Unit {0})
   pub out : List ℕ
 
-abbrev pub after_sample : Told (Unit {0}) → List ℕ → AfterSample
-after_sample t o = record { told = t; out = o }
+abbrev pub after_sample : Answer (Unit {0}) → List ℕ → AfterSample
+after_sample t o = record { answer = t; out = o }
 
 -- "`reservoir` writes it to the first k places of another lent u32 list"
 unfoldable pub sample_call : ConsistentReservoir → List ℕ → List ℕ → AfterSample
 sample_call r l o =
     cond (fitting r l)
-    (cond (ltb (length o) r.k) (after_sample (refusal 4) o) (after_sample (says tt) (written (sample r l) o)))
+    (cond (ltb (length o) r.k) (after_sample (refusal 4) o) (after_sample (result tt) (written (sample r l) o)))
     (after_sample (refusal 12) o)

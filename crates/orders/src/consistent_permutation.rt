@@ -1,6 +1,6 @@
 // The order of document 01: each number below n once, by counters through the layers.
 ghost use Rattle.std.specs.Prelude.{◌≡◌, true, ◌-◌, ◌^◌, ◌<◌, ◌≤◌};
-ghost use Rattle.answers.specs.Refusals.{told, told_option};
+ghost use Rattle.answers.specs.Refusals.{answer_of, answer_of_option};
 ghost use Rattle.layers.specs.Layer.{size};
 ghost use Rattle.orders.specs.Orders.{layer_of, counter};
 ghost use Rattle.orders.specs.OrderCalls.{new_call, step, within, first_of, next_call, tested};
@@ -25,7 +25,7 @@ impl ConsistentPermutation {
 
     // The order of the numbers below n, from its start. n above 2^30: refused 1.
     pub fn new(n: u32, key: u64) -> Result<Self, Refusal>
-        ensures { told result ≡ new_call n key }
+        ensures { answer_of result ≡ new_call n key }
     {
         if Self::N_LIMIT < n {
             return Err(Refusal::NAboveLimit);
@@ -41,7 +41,7 @@ impl ConsistentPermutation {
     // refused 1. A refusal leaves the order as it was. A call of its own: put into a caller, it would work on a copy of the counters.
     #[inline(never)]
     pub fn next(&mut self) -> Result<Option<u32>, Refusal>
-        ensures { step (told_option result) self.new ≡ next_call self.old }
+        ensures { step (answer_of_option result) self.new ≡ next_call self.old }
     {
         self.tested()?;
         if self.n == 0 {
@@ -53,7 +53,7 @@ impl ConsistentPermutation {
 
     // The refusals of `next` that are known before the first output: 12, 1.
     pub(crate) fn tested(&self) -> Result<(), Refusal>
-        ensures { told result ≡ tested self.now }
+        ensures { answer_of result ≡ tested self.now }
     {
         if !counters::within_sizes(&self.counters) {
             return Err(Refusal::Misfit);
@@ -81,7 +81,7 @@ impl ConsistentPermutation {
         requires some { 0 < self.old.n }
         requires limit { self.old.n ≤ 2 ^ 30 }
         requires fit { within self.old.counters ≡ true }
-        ensures { step (told_option result) self.new ≡ first_of self.old top.now.layer.number (size top.now.layer.number - counter self.old.counters top.now.layer.number) self.old.counters }
+        ensures { step (answer_of_option result) self.new ≡ first_of self.old top.now.layer.number (size top.now.layer.number - counter self.old.counters top.now.layer.number) self.old.counters }
     {
         let j = top.layer;
         let from = counters::counter_at(&self.counters, j);
@@ -101,7 +101,7 @@ impl ConsistentPermutation {
     fn lower(&mut self, top: Layer, x: u32) -> Result<Option<u32>, Refusal>
         requires above { 0 < top.number }
         requires fit { within self.old.counters ≡ true }
-        ensures { step (told_option result) self.new ≡ lower_step self.old (top.number - 1) x }
+        ensures { step (answer_of_option result) self.new ≡ lower_step self.old (top.number - 1) x }
     {
         let below = Layer {
             number: top.number - 1,

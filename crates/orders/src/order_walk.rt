@@ -1,7 +1,7 @@
 // An order walked over many numbers: the tests of `next` and the record of its layer are made once.
 ghost use Rattle.std.specs.Prelude.{◌≡◌, true, ◌^◌, ◌≤◌};
-ghost use Rattle.lists.specs.Told.{map_told};
-ghost use Rattle.answers.specs.Refusals.{told, told_option};
+ghost use Rattle.answers.specs.Answers.{map_answer};
+ghost use Rattle.answers.specs.Refusals.{answer_of, answer_of_option};
 ghost use Rattle.orders.specs.Orders.{layer_of};
 ghost use Rattle.orders.specs.OrderCalls.{step, within, next_call, walk_new_call};
 
@@ -23,7 +23,7 @@ pub struct OrderWalk {
 impl OrderWalk {
     // The order, to be walked from where it stands. A counter above its size: refused 12; n above 2^30: refused 1.
     pub fn new(order: ConsistentPermutation) -> Result<Self, Refusal>
-        ensures { map_told (λ w. w.order) (told result) ≡ walk_new_call order }
+        ensures { map_answer (λ w. w.order) (answer_of result) ≡ walk_new_call order }
     {
         order.tested()?;
         let top = order.top();
@@ -34,7 +34,7 @@ impl OrderWalk {
     // the walk as it was.
     #[inline]
     pub fn next(&mut self) -> Result<Option<u32>, Refusal>
-        ensures { step (told_option result) self.new.order ≡ next_call self.old.order }
+        ensures { step (answer_of_option result) self.new.order ≡ next_call self.old.order }
     {
         if self.order.n == 0 {
             return Ok(None);

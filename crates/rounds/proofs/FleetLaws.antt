@@ -8,7 +8,7 @@ use Prim.Native.Nat.{ℕ, ◌<◌, min}
 use native.Mathlib.Omega.{arith}
 use lib.Dec.{leb}
 use lib.ListN.{length}
-use Rattle.lists.specs.Told.{Told, refusal, says, is_refusal}
+use Rattle.answers.specs.Answers.{Answer, refusal, result, is_refusal}
 use Rattle.lists.specs.Lists.{has}
 use Rattle.lists.proofs.Tests.{by_test, by_three}
 use Rattle.lists.proofs.Searching.{by_first}
@@ -90,9 +90,9 @@ module _ (g h : Ledger) (e : LedgersAlike g h) where
 
   reply_alike : (places bytes : ℕ) (x : Call) → reply g places bytes x ≡ reply h places bytes x
   unfolding reply
-  reply_alike places bytes admit = λ i. cond (short_alike places i) (refusal 4) (says (answer_alike admit i))
-  reply_alike places bytes join = λ i. cond (leb (min bytes slot_limit) (e.free i)) (refusal 9) (says (answer_alike join i))
-  reply_alike places bytes (withdraw x) = λ i. cond (e.set x i) (says (answer_alike (withdraw x) i)) (refusal 10)
+  reply_alike places bytes admit = λ i. cond (short_alike places i) (refusal 4) (result (answer_alike admit i))
+  reply_alike places bytes join = λ i. cond (leb (min bytes slot_limit) (e.free i)) (refusal 9) (result (answer_alike join i))
+  reply_alike places bytes (withdraw x) = λ i. cond (e.set x i) (result (answer_alike (withdraw x) i)) (refusal 10)
 
 -- of a round's own ledger
 abbrev own : State → Ledger
@@ -143,16 +143,16 @@ shown_alike s t g h a b e =
     let v = shown_is t h b in
     record { key = u.key ∙ e.key ∙ sym v.key; k = u.k ∙ e.k ∙ sym v.k; n = u.n ∙ e.n ∙ sym v.n; active = λ x. u.active x ∙ e.set x ∙ sym (v.active x) }
 
-alike_next : (s t : State) → Kept s → Kept t → Alike s t → (x : Call) → (call s x).told ≡ (call t x).told → Alike (call s x).state (call t x).state
+alike_next : (s t : State) → Kept s → Kept t → Alike s t → (x : Call) → (call s x).answer ≡ (call t x).answer → Alike (call s x).state (call t x).state
 alike_next s t a b e x q =
-    let h : Shows (call t x).state (fed (own t) x (is_refusal (call t x).told)) = (step t (own t) (shows_own t b) x).1 in
-    shown_alike (call s x).state (call t x).state (fed (own s) x (is_refusal (call s x).told)) (fed (own t) x (is_refusal (call s x).told))
-    (step s (own s) (shows_own s a) x).1 (subst (λ (w : Told (List ℕ)). Shows (call t x).state (fed (own t) x (is_refusal w))) (sym q) h)
-    (fed_alike (own s) (own t) (own_alike s t e) x (is_refusal (call s x).told))
+    let h : Shows (call t x).state (fed (own t) x (is_refusal (call t x).answer)) = (step t (own t) (shows_own t b) x).1 in
+    shown_alike (call s x).state (call t x).state (fed (own s) x (is_refusal (call s x).answer)) (fed (own t) x (is_refusal (call s x).answer))
+    (step s (own s) (shows_own s a) x).1 (subst (λ (w : Answer (List ℕ)). Shows (call t x).state (fed (own t) x (is_refusal w))) (sym q) h)
+    (fed_alike (own s) (own t) (own_alike s t e) x (is_refusal (call s x).answer))
 
 -- ---- what both say
 
-refused_not : (b : Bool) (c : ℕ) (w : Told (List ℕ)) → cond b (refusal c) w ≢ refusal c → cond b (refusal c) w ≡ w
+refused_not : (b : Bool) (c : ℕ) (w : Answer (List ℕ)) → cond b (refusal c) w ≢ refusal c → cond b (refusal c) w ≡ w
 refused_not true c w d = absurd (d refl)
 refused_not false c w d = refl
 
@@ -161,24 +161,24 @@ reply_roomy : (g : Ledger) (x : Call) (places bytes places' bytes' : ℕ) → re
     → reply g places' bytes' x ≢ refusal 4 → reply g places' bytes' x ≢ refusal 9 → reply g places bytes x ≡ reply g places' bytes' x
 unfolding reply
 reply_roomy g admit p b p' b' four nine four' nine' =
-    refused_not (too_short g p (due_in g)) 4 (says (answer g admit)) four ∙ sym (refused_not (too_short g p' (due_in g)) 4 (says (answer g admit)) four')
+    refused_not (too_short g p (due_in g)) 4 (result (answer g admit)) four ∙ sym (refused_not (too_short g p' (due_in g)) 4 (result (answer g admit)) four')
 reply_roomy g join p b p' b' four nine four' nine' =
-    refused_not (leb (min b slot_limit) (free_slot g)) 9 (says (answer g join)) nine ∙ sym (refused_not (leb (min b' slot_limit) (free_slot g)) 9 (says (answer g join)) nine')
+    refused_not (leb (min b slot_limit) (free_slot g)) 9 (result (answer g join)) nine ∙ sym (refused_not (leb (min b' slot_limit) (free_slot g)) 9 (result (answer g join)) nine')
 reply_roomy g (withdraw x) p b p' b' four nine four' nine' = refl
 
 module _ (s t : State) (r : Reached s) (u : Reached t) (e : Alike s t) (x : Call) where
-  own_said : (call s x).told ≡ reply (own s) (length s.list) (length s.table) x
+  own_said : (call s x).answer ≡ reply (own s) (length s.list) (length s.table) x
   own_said = reached_said s r (own s) (shows_own s (reached_kept s r)) x
 
-  other_said : (call t x).told ≡ reply (own s) (length t.list) (length t.table) x
+  other_said : (call t x).answer ≡ reply (own s) (length t.list) (length t.table) x
   other_said = reached_said t u (own t) (shows_own t (reached_kept t u)) x ∙ sym (reply_alike (own s) (own t) (own_alike s t e) (length t.list) (length t.table) x)
 
   -- with lists of one length and tables of one length,
-  same_lengths : length s.list ≡ length t.list → length s.table ≡ length t.table → (call s x).told ≡ (call t x).told
+  same_lengths : length s.list ≡ length t.list → length s.table ≡ length t.table → (call s x).answer ≡ (call t x).answer
   same_lengths l b = own_said ∙ (λ i. reply (own s) (l i) (b i) x) ∙ sym other_said
 
   -- and where neither is refused 4 or 9
-  never_short : (call s x).told ≢ refusal 4 → (call s x).told ≢ refusal 9 → (call t x).told ≢ refusal 4 → (call t x).told ≢ refusal 9 → (call s x).told ≡ (call t x).told
+  never_short : (call s x).answer ≢ refusal 4 → (call s x).answer ≢ refusal 9 → (call t x).answer ≢ refusal 4 → (call t x).answer ≢ refusal 9 → (call s x).answer ≡ (call t x).answer
   never_short a b c d =
       own_said
       ∙ reply_roomy (own s) x (length s.list) (length s.table) (length t.list) (length t.table) (λ q. a (own_said ∙ q)) (λ q. b (own_said ∙ q)) (λ q. c (other_said ∙ q)) (λ q. d (other_said ∙ q))
@@ -196,7 +196,7 @@ together_none : (s t : State) → Reached s → Reached t → Alike s t → Toge
 unfolding all_said after_all
 together_none s t r u e = record { answers = refl; one = r; other = u; alike = e }
 
-together_next : (s t : State) (x : Call) (xs : List Call) → (call s x).told ≡ (call t x).told → Together (call s x).state (call t x).state xs → Together s t (x ∷ xs)
+together_next : (s t : State) (x : Call) (xs : List Call) → (call s x).answer ≡ (call t x).answer → Together (call s x).state (call t x).state xs → Together s t (x ∷ xs)
 unfolding all_said after_all
 together_next s t x xs q h = record { answers = λ i. q i ∷ h.answers i; one = h.one; other = h.other; alike = h.alike }
 

@@ -8,7 +8,7 @@ use Prim.Native.Nat.{ℕ}
 use native.Mathlib.Omega.{arith}
 use borrow.Author.Tests.{eq-eqb, ne_eqb}
 use lib.ListN.{length, take}
-use Rattle.lists.specs.Told.{refusal, says}
+use Rattle.answers.specs.Answers.{refusal, result}
 use Rattle.lists.specs.Lists.{has}
 use Rattle.lists.proofs.Tests.{by_same}
 use Rattle.lists.proofs.Members.{has_no}
@@ -30,7 +30,7 @@ pub plan_of_same : (key k n : ℕ) (A B : List ℕ) → Same A B → plan_from k
 unfolding plan_from
 plan_of_same key k n A B e =
     let sheets : ◌≡◌ {A = ℕ → Sheet} (λ x. sheet x (slot_of key x A)) (λ x. sheet x (slot_of key x B)) = fun_ext (λ x. ap (sheet x) (slot_of_same key x A B e)) in
-    (λ i. cond (same_empty A B e i) (refusal 11) (says (map (sheets i) (take k (P key n)))))
+    (λ i. cond (same_empty A B e i) (refusal 11) (result (map (sheets i) (take k (P key n)))))
 
 -- ---- the terminal of a location
 

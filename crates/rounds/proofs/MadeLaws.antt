@@ -4,8 +4,8 @@ use mathlib.Core.Path.{◌≡◌, sym, subst}
 use mathlib.Core.List.{List, [], ◌∷◌, ◌++◌}
 use Prim.Native.Nat.{ℕ}
 use Rattle.std.proofs.Math.Path.{subst₂}
-use Rattle.answers.specs.Refusals.{number, told}
-use Rattle.lists.specs.Told.{Told, refusal, is_refusal}
+use Rattle.answers.specs.Refusals.{number, answer_of}
+use Rattle.answers.specs.Answers.{Answer, refusal, is_refusal}
 use Rattle.rounds.specs.Rounds.{State, After, after}
 use Rattle.rounds.specs.Ledgers.{Call, Ledger, first_ledger, fed, fed_all}
 use Rattle.rounds.specs.Histories.{Made, AllMade, made_none, made_next, refusals, call}
@@ -17,24 +17,24 @@ use Rattle.rounds.proofs.FormLaws.{made_is, call_made}
 -- ---- a call so made, and the ledger
 
 -- What is asked of every form of a call: it is the model's call, or it is refused, with its number, and changes nothing.
-pub data Counts (s : State) (x : Call) (w : Told (List ℕ)) (t : State) : Type 0 where
+pub data Counts (s : State) (x : Call) (w : Answer (List ℕ)) (t : State) : Type 0 where
   as_call : after w t ≡ call s x → Counts s x w t
   as_none : (number : ℕ) → w ≡ refusal number → t ≡ s → Counts s x w t
 
-pub made_counts : {s t : State} {x : Call} {w : Told (List ℕ)} → Made s x w t → Counts s x w t
+pub made_counts : {s t : State} {x : Call} {w : Answer (List ℕ)} → Made s x w t → Counts s x w t
 made_counts m = as_call (made_is m)
 
-counts_step : {s t : State} {x : Call} {w : Told (List ℕ)} (g : Ledger) → Shows s g → Counts s x w t → Follows g x w t
-counts_step {s = s} {x = x} g h (as_call e) = subst (λ (a : After (List ℕ)). Follows g x a.told a.state) (sym e) (step s g h x)
-counts_step {x = x} g h (as_none number told left) = subst₂ (Follows g x) (sym told) (sym left) (tt, h)
+counts_step : {s t : State} {x : Call} {w : Answer (List ℕ)} (g : Ledger) → Shows s g → Counts s x w t → Follows g x w t
+counts_step {s = s} {x = x} g h (as_call e) = subst (λ (a : After (List ℕ)). Follows g x a.answer a.state) (sym e) (step s g h x)
+counts_step {x = x} g h (as_none number answer_of left) = subst₂ (Follows g x) (sym answer_of) (sym left) (tt, h)
 
 -- THE STEP: the answer is the ledger's where it is no refusal, and what stands after the call shows the ledger fed with it
-pub made_step : {s t : State} {x : Call} {w : Told (List ℕ)} (g : Ledger) → Shows s g → Made s x w t → Follows g x w t
+pub made_step : {s t : State} {x : Call} {w : Answer (List ℕ)} (g : Ledger) → Shows s g → Made s x w t → Follows g x w t
 made_step g h m = counts_step g h (made_counts m)
 
 -- ---- a list of them
 
-pub all_made_shows : {s u : State} {xs : List Call} {ws : List (Told (List ℕ))} (g : Ledger) → Shows s g → AllMade s xs ws u → Agree g xs ws × Shows u (fed_all g xs (refusals ws))
+pub all_made_shows : {s u : State} {xs : List Call} {ws : List (Answer (List ℕ))} (g : Ledger) → Shows s g → AllMade s xs ws u → Agree g xs ws × Shows u (fed_all g xs (refusals ws))
 unfolding Agree fed_all
 all_made_shows g h (made_none s) = (tt, h)
 all_made_shows g h (made_next {x = x} {w = w} m ms) =
@@ -50,12 +50,12 @@ pub reached_kept : (s : State) → Reached s → Kept s
 reached_kept s h = (reached_shows s h).kept
 
 -- one call more
-all_made_snoc : {s t u : State} {xs : List Call} {ws : List (Told (List ℕ))} {x : Call} {w : Told (List ℕ)} → AllMade s xs ws t → Made t x w u
+all_made_snoc : {s t u : State} {xs : List Call} {ws : List (Answer (List ℕ))} {x : Call} {w : Answer (List ℕ)} → AllMade s xs ws t → Made t x w u
     → AllMade s (xs ++ (x ∷ [])) (ws ++ (w ∷ [])) u
 all_made_snoc (made_none s) m = made_next m (made_none _)
 all_made_snoc (made_next a rest) m = made_next a (all_made_snoc rest m)
 
-pub reached_more : {s t : State} {x : Call} {w : Told (List ℕ)} → Reached s → Made s x w t → Reached t
+pub reached_more : {s t : State} {x : Call} {w : Answer (List ℕ)} → Reached s → Made s x w t → Reached t
 reached_more {x = x} {w = w} h m =
     record {
       key = h.key;

@@ -9,9 +9,9 @@ use Prim.Native.Nat.{ℕ}
 use native.Mathlib.Omega.{arith}
 use borrow.Author.Tests.{ne_eqb}
 use lib.ListN.{length, take}
-use Rattle.lists.specs.Told.{Told, refusal, says}
+use Rattle.answers.specs.Answers.{Answer, refusal, result}
 use Rattle.lists.specs.Lists.{has, without, Exchanges}
-use Rattle.lists.proofs.Tolds.{not_said}
+use Rattle.answers.proofs.AnswerLaws.{not_said}
 use Rattle.lists.proofs.Tests.{by_test, by_same}
 use Rattle.lists.proofs.Members.{has_no}
 use Rattle.lists.proofs.Having.{has_head, has_more, has_others}
@@ -36,14 +36,14 @@ use Rattle.rounds.proofs.PlanLaws.{own_plan}
 -- ---- a round so reached
 
 -- its plan is by its key, k, n and active slots
-abbrev plan_by : State → List ℕ → Told (List Sheet)
+abbrev plan_by : State → List ℕ → Answer (List Sheet)
 plan_by s A = plan_from s.round.master_key s.round.k s.round.n A
 
-plan_by_lem : (s : State) → Kept s → (p : Told (List Sheet)) → PlanOf s p → p ≡ plan_by s (actives_of s)
+plan_by_lem : (s : State) → Kept s → (p : Answer (List Sheet)) → PlanOf s p → p ≡ plan_by s (actives_of s)
 plan_by_lem s kept p h = sym h.is ∙ ap (shown_plan s.round.k) h.promise ∙ own_plan s kept h.ls h.ts h.places h.enough
 
 -- "Rounds so reached and alike in these four have the same plan."
-pub same_plan : (s t : State) → Reached s → Reached t → Alike s t → (p q : Told (List Sheet)) → PlanOf s p → PlanOf t q → p ≡ q
+pub same_plan : (s t : State) → Reached s → Reached t → Alike s t → (p q : Answer (List Sheet)) → PlanOf s p → PlanOf t q → p ≡ q
 same_plan s t r u e p q hp hq =
     let set : Same (actives_of s) (actives_of t) = (λ x. has_actives s.table s.round.total x ∙ e.active x ∙ sym (has_actives t.table t.round.total x)) in
     plan_by_lem s (reached_kept s r) p hp
@@ -56,16 +56,16 @@ eleven : (key k n : ℕ) (A : List ℕ) → plan_from key k n A ≡ refusal 11 �
 unfolding plan_from
 eleven key k n [] e = λ x. refl
 eleven key k n (a ∷ A) e =
-    let z : says (map (λ x. sheet x (slot_of key x (a ∷ A))) (take k (P key n))) ≡ refusal 11 = rw (ne_eqb (length (a ∷ A)) 0 (λ z. omega arith)) at e in
+    let z : result (map (λ x. sheet x (slot_of key x (a ∷ A))) (take k (P key n))) ≡ refusal 11 = rw (ne_eqb (length (a ∷ A)) 0 (λ z. omega arith)) at e in
     not_said 11 (map (λ x. sheet x (slot_of key x (a ∷ A))) (take k (P key n))) (sym z)
 
-pub eleven_none : (s : State) → Reached s → (p : Told (List Sheet)) → PlanOf s p → p ≡ refusal 11 → (x : ℕ) → active s.table s.round.total x ≡ false
+pub eleven_none : (s : State) → Reached s → (p : Answer (List Sheet)) → PlanOf s p → p ≡ refusal 11 → (x : ℕ) → active s.table s.round.total x ≡ false
 eleven_none s r p h e x =
     sym (has_actives s.table s.round.total x)
     ∙ eleven s.round.master_key s.round.k s.round.n (actives_of s) (sym (plan_by_lem s (reached_kept s r) p h) ∙ e) x
     ∙ has_no x [] refl
 
-pub none_eleven : (s : State) → Reached s → (p : Told (List Sheet)) → PlanOf s p → ((x : ℕ) → active s.table s.round.total x ≡ false) → p ≡ refusal 11
+pub none_eleven : (s : State) → Reached s → (p : Answer (List Sheet)) → PlanOf s p → ((x : ℕ) → active s.table s.round.total x ≡ false) → p ≡ refusal 11
 unfolding plan_from
 none_eleven s r p h none_active =
     plan_by_lem s (reached_kept s r) p h
@@ -82,13 +82,13 @@ record Accepted (s : State) (x : Call) (vs : List ℕ) (t : State) : Type 0 wher
   values : vs ≡ answer (shown s (actives_of s)) x
   shows : Shows t (accept (shown s (actives_of s)) x)
 
-accepted : (s t : State) → Kept s → (x : Call) (vs : List ℕ) → Made s x (says vs) t → Accepted s x vs t
+accepted : (s t : State) → Kept s → (x : Call) (vs : List ℕ) → Made s x (result vs) t → Accepted s x vs t
 accepted s t kept x vs m =
-    let f : Follows (shown s (actives_of s)) x (says vs) t = made_step (shown s (actives_of s)) (shows_own s kept) m in
+    let f : Follows (shown s (actives_of s)) x (result vs) t = made_step (shown s (actives_of s)) (shows_own s kept) m in
     record { values = f.0; shows = f.1 }
 
 -- the plan of a round that shows a ledger
-pub plan_shown : (s : State) (g : Ledger) → Shows s g → (p : Told (List Sheet)) → PlanOf s p → p ≡ plan_from g.key g.k g.n g.A
+pub plan_shown : (s : State) (g : Ledger) → Shows s g → (p : Answer (List Sheet)) → PlanOf s p → p ≡ plan_from g.key g.k g.n g.A
 plan_shown s g h p hp =
     plan_by_lem s h.kept p hp
     ∙ plan_of_same s.round.master_key s.round.k s.round.n (actives_of s) g.A h.set
@@ -110,16 +110,16 @@ fewer key x y A xs d =
     (λ h. rw h refl)
 
 -- "an accepted withdraw moves only the locations of the terminal withdrawn"
-pub withdraw_moves : (s t : State) → Reached s → (x : ℕ) (vs : List ℕ) → Made s (withdraw x) (says vs) t
-    → (p q : Told (List Sheet)) → PlanOf s p → PlanOf t q → (y : ℕ) → Moves p q y → terminal p y ≡ some x
+pub withdraw_moves : (s t : State) → Reached s → (x : ℕ) (vs : List ℕ) → Made s (withdraw x) (result vs) t
+    → (p q : Answer (List Sheet)) → PlanOf s p → PlanOf t q → (y : ℕ) → Moves p q y → terminal p y ≡ some x
 unfolding accept
 withdraw_moves s t r x vs m p q hp hq y moves =
     let kept : Kept s = reached_kept s r in
     let key : ℕ = s.round.master_key in
     let xs : List ℕ = take s.round.k (P key s.round.n) in
-    let before : terminal p y ≡ slot_in key (actives_of s) xs y = ap (λ (z : Told (List Sheet)). terminal z y) (plan_by_lem s kept p hp) ∙ terminal_is key s.round.k s.round.n (actives_of s) y in
+    let before : terminal p y ≡ slot_in key (actives_of s) xs y = ap (λ (z : Answer (List Sheet)). terminal z y) (plan_by_lem s kept p hp) ∙ terminal_is key s.round.k s.round.n (actives_of s) y in
     let now : terminal q y ≡ slot_in key (without x (actives_of s)) xs y =
-    ap (λ (z : Told (List Sheet)). terminal z y) (plan_shown t (accept (shown s (actives_of s)) (withdraw x)) (accepted s t kept (withdraw x) vs m).shows q hq)
+    ap (λ (z : Answer (List Sheet)). terminal z y) (plan_shown t (accept (shown s (actives_of s)) (withdraw x)) (accepted s t kept (withdraw x) vs m).shows q hq)
     ∙ terminal_is key s.round.k s.round.n (without x (actives_of s)) y in
     by_some (terminal p y) x
     (λ h. h)
@@ -136,8 +136,8 @@ more key x y A xs =
     (λ h. rw h (inl refl))
 
 -- "an accepted join moves locations only to the joiner"
-pub join_moves : (s t : State) → Reached s → (x : ℕ) → Made s join (says (x ∷ [])) t
-    → (p q : Told (List Sheet)) → PlanOf s p → PlanOf t q → (y : ℕ) → Moves p q y → terminal q y ≡ some x
+pub join_moves : (s t : State) → Reached s → (x : ℕ) → Made s join (result (x ∷ [])) t
+    → (p q : Answer (List Sheet)) → PlanOf s p → PlanOf t q → (y : ℕ) → Moves p q y → terminal q y ≡ some x
 unfolding accept answer
 join_moves s t r x m p q hp hq y moves =
     let kept : Kept s = reached_kept s r in
@@ -146,9 +146,9 @@ join_moves s t r x m p q hp hq y moves =
     let xs : List ℕ = take s.round.k (P key s.round.n) in
     let free : ℕ = free_slot (shown s (actives_of s)) in
     let is_free : x ≡ free = one_value x free a.values in
-    let before : terminal p y ≡ slot_in key (actives_of s) xs y = ap (λ (z : Told (List Sheet)). terminal z y) (plan_by_lem s kept p hp) ∙ terminal_is key s.round.k s.round.n (actives_of s) y in
+    let before : terminal p y ≡ slot_in key (actives_of s) xs y = ap (λ (z : Answer (List Sheet)). terminal z y) (plan_by_lem s kept p hp) ∙ terminal_is key s.round.k s.round.n (actives_of s) y in
     let now : terminal q y ≡ slot_in key (free ∷ actives_of s) xs y =
-    ap (λ (z : Told (List Sheet)). terminal z y) (plan_shown t (accept (shown s (actives_of s)) join) a.shows q hq)
+    ap (λ (z : Answer (List Sheet)). terminal z y) (plan_shown t (accept (shown s (actives_of s)) join) a.shows q hq)
     ∙ terminal_is key s.round.k s.round.n (free ∷ actives_of s) y in
     ⊎_elim
     (λ (h : slot_in key (free ∷ actives_of s) xs y ≡ slot_in key (actives_of s) xs y). absurd (moves (before ∙ sym (now ∙ h))))
@@ -175,7 +175,7 @@ exchanges s t ks kt ekey ek (some v) d en =
     )
 
 -- "An admit changes the sample by exactly the two locations it names, one out and one in, or not at all"; "relative order"
-pub admit_samples : (s t : State) → Reached s → (vs : List ℕ) → Made s admit (says vs) t → SampleMoves (sampled s) (sampled t) vs
+pub admit_samples : (s t : State) → Reached s → (vs : List ℕ) → Made s admit (result vs) t → SampleMoves (sampled s) (sampled t) vs
 unfolding accept answer
 admit_samples s t r vs m =
     let kept : Kept s = reached_kept s r in
@@ -199,8 +199,8 @@ stays l l' vs h y out =
     h
 
 -- "the others keep terminal": only the locations that it names move
-pub admit_moves : (s t : State) → Reached s → (vs : List ℕ) → Made s admit (says vs) t
-    → (p q : Told (List Sheet)) → PlanOf s p → PlanOf t q → (y : ℕ) → Moves p q y → has y vs ≡ true
+pub admit_moves : (s t : State) → Reached s → (vs : List ℕ) → Made s admit (result vs) t
+    → (p q : Answer (List Sheet)) → PlanOf s p → PlanOf t q → (y : ℕ) → Moves p q y → has y vs ≡ true
 unfolding accept
 admit_moves s t r vs m p q hp hq y moves =
     let kept : Kept s = reached_kept s r in
@@ -209,10 +209,10 @@ admit_moves s t r vs m p q hp hq y moves =
     let key : ℕ = s.round.master_key in
     let same_key : t.round.master_key ≡ key = ap (λ (z : Ledger). z.key) n.numbers in
     let before : terminal p y ≡ slot_in key (actives_of s) (sampled s) y =
-    ap (λ (z : Told (List Sheet)). terminal z y) (plan_by_lem s kept p hp) ∙ terminal_is key s.round.k s.round.n (actives_of s) y
+    ap (λ (z : Answer (List Sheet)). terminal z y) (plan_by_lem s kept p hp) ∙ terminal_is key s.round.k s.round.n (actives_of s) y
     ∙ ap (λ (xs : List ℕ). slot_in key (actives_of s) xs y) (sym (sampled_is s kept)) in
     let now : terminal q y ≡ slot_in key (actives_of s) (sampled t) y =
-    ap (λ (z : Told (List Sheet)). terminal z y) (plan_by_lem t n.kept q hq ∙ plan_of_same t.round.master_key t.round.k t.round.n (actives_of t) (actives_of s) n.set)
+    ap (λ (z : Answer (List Sheet)). terminal z y) (plan_by_lem t n.kept q hq ∙ plan_of_same t.round.master_key t.round.k t.round.n (actives_of t) (actives_of s) n.set)
     ∙ terminal_is t.round.master_key t.round.k t.round.n (actives_of s) y
     ∙ (λ i. slot_in (same_key i) (actives_of s) (sym (sampled_is t n.kept) i) y) in
     by_test (has y vs)

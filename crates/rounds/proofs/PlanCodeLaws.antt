@@ -9,15 +9,15 @@ use native.Mathlib.Omega.{arith}
 use borrow.Author.Tests.{lt-ltb, le-ltb}
 use lib.Dec.{eqb}
 use lib.ListN.{length}
-use Rattle.lists.specs.Told.{refusal, says}
+use Rattle.answers.specs.Answers.{refusal, result}
 use Rattle.lists.specs.Lists.{written}
-use Rattle.lists.proofs.Tolds.{not_said, refusal_same}
+use Rattle.answers.proofs.AnswerLaws.{not_said, refusal_same}
 use Rattle.lists.proofs.Tests.{by_test}
 use Rattle.orders.specs.ReservoirCalls.{sample}
 use Rattle.orders.proofs.CheckLaws.{fits_parts}
 use Rattle.std.specs.Prelude.{Result, Ok, Err}
 use Rattle.answers.specs.declared.Refusal.{Refusal}
-use Rattle.answers.specs.Refusals.{number, told}
+use Rattle.answers.specs.Refusals.{number, answer_of}
 use Rattle.choosers.specs.Slots.{actives, state_of}
 use Rattle.choosers.specs.SlotCalls.{slot_limit}
 use Rattle.choosers.proofs.GetLaws.{look_all}
@@ -29,18 +29,18 @@ use Rattle.rounds.proofs.RoundCallLaws.{fits_both}
 
 -- ---- whether the record fits, and whether no slot is active
 
-same_truth : (a b : Bool) → says a ≡ says b → a ≡ b
+same_truth : (a b : Bool) → result a ≡ result b → a ≡ b
 same_truth a b e = cc
 
 pub record Ready (r : Round) (l t : List ℕ) (idle : Bool) : Type 0 where
   pub fits : fitting (state r l t) ≡ true
   pub none : eqb (length (actives t r.total)) 0 ≡ idle
 
-module _ (r : Round) (l t : List ℕ) (b : Result Bool Refusal) (is : told b ≡ idle_of (state r l t)) where
+module _ (r : Round) (l t : List ℕ) (b : Result Bool Refusal) (is : answer_of b ≡ idle_of (state r l t)) where
   pub is_ready : (idle : Bool) → b ≡ Ok idle → Ready r l t idle
   unfolding idle_of
   is_ready idle e =
-      let s : says idle ≡ idle_of (state r l t) = ap told (sym e) ∙ is in
+      let s : result idle ≡ idle_of (state r l t) = ap answer_of (sym e) ∙ is in
       by_test (fitting (state r l t))
       (λ y. record { fits = y; none = same_truth _ _ (sym (rw y at s)) })
       (λ m. not_said 12 idle (sym (rw m at s)))
@@ -48,7 +48,7 @@ module _ (r : Round) (l t : List ℕ) (b : Result Bool Refusal) (is : told b ≡
   pub is_unfit : (w : Refusal) → b ≡ Err w → (fitting (state r l t) ≡ false) × (number w ≡ 12)
   unfolding idle_of
   is_unfit w e =
-      let s : refusal (number w) ≡ idle_of (state r l t) = ap told (sym e) ∙ is in
+      let s : refusal (number w) ≡ idle_of (state r l t) = ap answer_of (sym e) ∙ is in
       by_test (fitting (state r l t))
       (λ y. not_said (number w) _ (rw y at s))
       (λ m. (m, refusal_same (number w) 12 (rw m at s)))
@@ -95,9 +95,9 @@ module _ (r : Round) (l t ls ts : List ℕ) (places : ℕ) where
           pub plan_done : idle ≡ false → (locations terminals : List ℕ)
               → (locations ≡ written (sample (reservoir_of r) l) ls)
               × (terminals ≡ written (map (dealt_to r.master_key r.total t places) (sample (reservoir_of r) l)) ts)
-              → after_plan (says tt) locations terminals ≡ plan_call (state r l t) ls ts places
+              → after_plan (result tt) locations terminals ≡ plan_call (state r l t) ls ts places
           unfolding plan_call
           plan_done e locations terminals d =
-              (λ i. after_plan (says tt) (d.0 i) (d.1 i))
-              ∙ ap (λ (f : ℕ → ℕ). after_plan (says tt) (written (sample (reservoir_of r) l) ls) (written (map f (sample (reservoir_of r) l)) ts)) (fun_ext dealt_slot)
+              (λ i. after_plan (result tt) (d.0 i) (d.1 i))
+              ∙ ap (λ (f : ℕ → ℕ). after_plan (result tt) (written (sample (reservoir_of r) l) ls) (written (map f (sample (reservoir_of r) l)) ts)) (fun_ext dealt_slot)
               ∙ rw (y.fits, le-ltb (length ls) r.k a, le-ltb (length ts) r.k b, le-ltb places (min (length t) slot_limit) c, y.none, e)

@@ -9,7 +9,7 @@ use Prim.Native.Nat.{ℕ, min}
 use borrow.Author.Tests.{le-ltb}
 use lib.Dec.{eqb}
 use lib.ListN.{length, length-map}
-use Rattle.lists.specs.Told.{refusal, says}
+use Rattle.answers.specs.Answers.{refusal, result}
 use Rattle.lists.specs.Lists.{written}
 use Rattle.lists.proofs.Tests.{by_test}
 use Rattle.lists.proofs.Having.{has_head}
@@ -37,10 +37,10 @@ shown_refusal k w ls ts = refl
 
 -- what stands in the first k places
 pub shown_sheets : (k : ℕ) (f : ℕ → ℕ) (xs ls ts : List ℕ) → length xs ≡ k
-    → shown_plan k (after_plan (says tt) (written xs ls) (written (map f xs) ts)) ≡ says (map (λ x. sheet x (some (f x))) xs)
+    → shown_plan k (after_plan (result tt) (written xs ls) (written (map f xs) ts)) ≡ result (map (λ x. sheet x (some (f x))) xs)
 unfolding shown_plan
 shown_sheets k f xs ls ts e =
-    rw (written_take k xs ls e, written_take k (map f xs) ts (length-map xs f ∙ e)) (ap says (sheets_map f xs))
+    rw (written_take k xs ls e, written_take k (map f xs) ts (length-map xs f ∙ e)) (ap result (sheets_map f xs))
 
 -- ---- where a slot is active, get gives one
 
@@ -64,7 +64,7 @@ terminal_slot s e x =
 module _ (s : State) (kept : Kept s) (ls ts : List ℕ) (places : ℕ) (enough : Enough s.round.k (length s.table) ls ts places) where
   -- 12 and 4 are not met
   accepted : plan_call s ls ts places
-      ≡ cond (eqb (length (actives_of s)) 0) (after_plan (refusal 11) ls ts) (after_plan (says tt) (written (sampled s) ls) (written (map (terminal_of s) (sampled s)) ts))
+      ≡ cond (eqb (length (actives_of s)) 0) (after_plan (refusal 11) ls ts) (after_plan (result tt) (written (sampled s) ls) (written (map (terminal_of s) (sampled s)) ts))
   unfolding plan_call
   accepted =
       rw (
@@ -82,7 +82,7 @@ module _ (s : State) (kept : Kept s) (ls ts : List ℕ) (places : ℕ) (enough :
       (λ y. rw y (shown_refusal s.round.k 11 ls ts))
       (λ n. rw n (
       shown_sheets s.round.k (terminal_of s) (sampled s) ls ts (sample_length (reservoir_of s.round) s.list kept.list)
-      ∙ ap says ((λ i. map (slots n i) (sampled s)) ∙ ap (map (λ x. sheet x (slot_of s.round.master_key x (actives_of s)))) (sample_is (reservoir_of s.round) s.list kept.list))
+      ∙ ap result ((λ i. map (slots n i) (sampled s)) ∙ ap (map (λ x. sheet x (slot_of s.round.master_key x (actives_of s)))) (sample_is (reservoir_of s.round) s.list kept.list))
       ))
     where
       slots : eqb (length (actives_of s)) 0 ≡ false → ◌≡◌ {A = ℕ → Sheet} (λ x. sheet x (some (terminal_of s x))) (λ x. sheet x (slot_of s.round.master_key x (actives_of s)))

@@ -8,14 +8,14 @@ use Prim.Native.Nat.{ℕ, ◌+◌, ◌*◌, min}
 use lib.Dec.{ltb, eqb}
 use lib.ListN.{length}
 use Rattle.std.specs.Prelude.{Result, Ok, Err}
-use Rattle.lists.specs.Told.{Told, refusal, says}
+use Rattle.answers.specs.Answers.{Answer, refusal, result}
 use Rattle.lists.specs.Lists.{same, has, every}
-use Rattle.lists.specs.Refusing.{Spares}
+use Rattle.answers.specs.Refusing.{Spares}
 use Rattle.lists.proofs.Tests.{by_cond}
 use Rattle.lists.proofs.Having.{has_more}
-use Rattle.lists.proofs.Spared.{spared_mapped, spared_under, spared_within}
+use Rattle.answers.proofs.Spared.{spared_mapped, spared_under, spared_within}
 use Rattle.answers.specs.declared.Refusal.{Refusal}
-use Rattle.answers.specs.Refusals.{told}
+use Rattle.answers.specs.Refusals.{answer_of}
 use Rattle.orders.specs.ReservoirCalls as Reservoir
 use Rattle.orders.proofs.RefusedLaws as reservoirs
 use Rattle.choosers.specs.Slots.{actives}
@@ -30,45 +30,45 @@ use Rattle.rounds.specs.RefusedBy.{open_refusals, admit_refusals, join_refusals,
 
 -- ---- open, admit, join and withdraw
 
-pub open_refuses : (key k n : ℕ) (l : List ℕ) → let a = open_call key k n l in Spares open_refusals a.told l a.list
+pub open_refuses : (key k n : ℕ) (l : List ℕ) → let a = open_call key k n l in Spares open_refusals a.answer l a.list
 unfolding open_call
-open_refuses key k n l = let o = Reservoir.open_call k n key l in spared_mapped _ open_refusals o.told l o.list (reservoirs.open_refuses k n key l)
+open_refuses key k n l = let o = Reservoir.open_call k n key l in spared_mapped _ open_refusals o.answer l o.list (reservoirs.open_refuses k n key l)
 
 module _ (s : State) where
   abbrev Spared : List ℕ → {A : Type 0} → After A → Type 0
-  Spared ws a = Spares ws a.told s a.state
+  Spared ws a = Spares ws a.answer s a.state
 
-  pub admit_refuses : let a = admit_call s in Spares admit_refusals a.told s a.state
+  pub admit_refuses : let a = admit_call s in Spares admit_refusals a.answer s a.state
   unfolding admit_call has same
   admit_refuses =
       by_cond (Spared admit_refusals) (fitting s) _ _
       (λ fits. let a = Reservoir.admit_call (reservoir_of s.round) s.list in
-      spared_under (λ b. (by_reservoir s b).state) admit_refusals a.told (Reservoir.after a.told (reservoir_of s.round) s.list) a
+      spared_under (λ b. (by_reservoir s b).state) admit_refusals a.answer (Reservoir.after a.answer (reservoir_of s.round) s.list) a
       (reservoirs.admit_refuses (reservoir_of s.round) s.list))
       (λ unfit. (refl, refl))
 
-  pub join_refuses : let a = join_call s in Spares join_refusals a.told s a.state
+  pub join_refuses : let a = join_call s in Spares join_refusals a.answer s a.state
   unfolding join_call has same
   join_refuses =
       by_cond (Spared join_refusals) (fitting s) _ _
       (λ fits. let a = Slots.add_call (map_of s.round) s.table in
-      spared_under (λ b. (by_slots s b).state) join_refusals a.told (Slots.after a.told (map_of s.round) s.table) a
+      spared_under (λ b. (by_slots s b).state) join_refusals a.answer (Slots.after a.answer (map_of s.round) s.table) a
       (slots.add_refuses (map_of s.round) s.table))
       (λ unfit. (refl, refl))
 
-  pub withdraw_refuses : (x : ℕ) → let a = withdraw_call s x in Spares withdraw_refusals a.told s a.state
+  pub withdraw_refuses : (x : ℕ) → let a = withdraw_call s x in Spares withdraw_refusals a.answer s a.state
   unfolding withdraw_call has same
   withdraw_refuses x =
       by_cond (Spared withdraw_refusals) (fitting s) _ _
       (λ fits. let a = Slots.remove_call (map_of s.round) s.table x in
-      spared_under (λ b. (by_slots s b).state) withdraw_refusals a.told (Slots.after a.told (map_of s.round) s.table) a
+      spared_under (λ b. (by_slots s b).state) withdraw_refusals a.answer (Slots.after a.answer (map_of s.round) s.table) a
       (slots.remove_refuses (map_of s.round) s.table x))
       (λ unfit. (refl, refl))
 
 -- ---- plan
 
 -- the two lists
-pub plan_spares : (s : State) (ls ts : List ℕ) (places : ℕ) → let a = plan_call s ls ts places in Spares plan_refusals a.told (after_plan a.told ls ts) a
+pub plan_spares : (s : State) (ls ts : List ℕ) (places : ℕ) → let a = plan_call s ls ts places in Spares plan_refusals a.answer (after_plan a.answer ls ts) a
 unfolding plan_call has same
 plan_spares s ls ts places =
     by_cond PlanSpared (fitting s) _ _
@@ -78,28 +78,28 @@ plan_spares s ls ts places =
     (λ unfit. (refl, refl))
   where
     PlanSpared : AfterPlan → Type 0
-    PlanSpared a = Spares plan_refusals a.told (after_plan a.told ls ts) a
+    PlanSpared a = Spares plan_refusals a.answer (after_plan a.answer ls ts) a
 
 -- and the scratch
 module _ (s : State) (ls ts ls' ts' before now : List ℕ) where
-  pub plan_refuses : (o : Result (Unit {0}) Refusal) → after_plan (told o) ls' ts' ≡ plan_call s ls ts (length before) → ScratchAfter o before now
-      → Spares {M = AfterPlan × List ℕ} plan_refusals (told o) (after_plan (told o) ls ts, before) (after_plan (told o) ls' ts', now)
+  pub plan_refuses : (o : Result (Unit {0}) Refusal) → after_plan (answer_of o) ls' ts' ≡ plan_call s ls ts (length before) → ScratchAfter o before now
+      → Spares {M = AfterPlan × List ℕ} plan_refusals (answer_of o) (after_plan (answer_of o) ls ts, before) (after_plan (answer_of o) ls' ts', now)
   plan_refuses (Ok u) e k = tt
   plan_refuses (Err why) e k =
-      let p = subst (λ (a : AfterPlan). Spares plan_refusals a.told (after_plan a.told ls ts) a) (sym e) (plan_spares s ls ts (length before)) in
+      let p = subst (λ (a : AfterPlan). Spares plan_refusals a.answer (after_plan a.answer ls ts) a) (sym e) (plan_spares s ls ts (length before)) in
       (p.0, (λ i. (p.1 i, k i)))
 
 -- ---- replay
 
 module _ (l t ws ls ts : List ℕ) where
   abbrev pub ReplaySpared : AfterReplay → Type 0
-  ReplaySpared a = Spares replay_refusals a.told (after_replay a.told l t ws ls ts) a
+  ReplaySpared a = Spares replay_refusals a.answer (after_replay a.answer l t ws ls ts) a
 
-  opened_spares : (o : Told Round) (l' : List ℕ) (xs : List Call) (places : ℕ) → Spares replay_refusals o l l'
+  opened_spares : (o : Answer Round) (l' : List ℕ) (xs : List Call) (places : ℕ) → Spares replay_refusals o l l'
       → ReplaySpared (opened_run o l' t xs ws ls ts places)
   unfolding run_of
   opened_spares (refusal w) l' xs places s = (s.0, (λ i. after_replay (refusal w) (s.1 i) t ws ls ts))
-  opened_spares (says r) l' xs places s = tt
+  opened_spares (result r) l' xs places s = tt
 
   pub replay_spares : (key k n : ℕ) (codes : List ℕ) (places : ℕ) → ReplaySpared (replay_call key k n codes l t ws ls ts places)
   unfolding replay_call every has same
@@ -108,15 +108,15 @@ module _ (l t ws ls ts : List ℕ) where
       (λ calls. by_cond ReplaySpared (ltb (length ws) (4 * length codes + 4)) _ _
       (λ short. (has_more (Reservoir.short_refusal k n) 12 open_refusals (reservoirs.short_refuses k n), refl))
       (λ long. let o = open_call key k n l in
-      opened_spares o.told o.list (map call_of codes) places
-      (spared_within open_refusals replay_refusals o.told l o.list refl (open_refuses key k n l))))
+      opened_spares o.answer o.list (map call_of codes) places
+      (spared_within open_refusals replay_refusals o.answer l o.list refl (open_refuses key k n l))))
       (λ none. (refl, refl))
 
 module _ (key k n : ℕ) (codes l t ws ls ts l' t' ws' ls' ts' before now : List ℕ) where
   pub replay_refuses : (o : Result (Unit {0}) Refusal)
-      → after_replay (told o) l' t' ws' ls' ts' ≡ replay_call key k n codes l t ws ls ts (length before) → ReplayScratch o (length codes) ws' before now
-      → Spares {M = AfterReplay × List ℕ} replay_refusals (told o)
-      (after_replay (told o) l t ws ls ts, before) (after_replay (told o) l' t' ws' ls' ts', now)
+      → after_replay (answer_of o) l' t' ws' ls' ts' ≡ replay_call key k n codes l t ws ls ts (length before) → ReplayScratch o (length codes) ws' before now
+      → Spares {M = AfterReplay × List ℕ} replay_refusals (answer_of o)
+      (after_replay (answer_of o) l t ws ls ts, before) (after_replay (answer_of o) l' t' ws' ls' ts', now)
   replay_refuses (Ok u) e k' = tt
   replay_refuses (Err why) e k' =
       let p = subst (ReplaySpared l t ws ls ts) (sym e) (replay_spares l t ws ls ts key k n codes (length before)) in

@@ -10,16 +10,16 @@ use Rattle.std.proofs.Math.Path.{subst₂}
 use borrow.Author.Tests.{lt-ltb, le-ltb}
 use lib.Dec.{ltb, eqb}
 use lib.ListN.{length, drop, length-map}
-use Rattle.lists.specs.Told.{Told, refusal, says, map_told, is_refusal}
+use Rattle.answers.specs.Answers.{Answer, refusal, result, map_answer, is_refusal}
 use Rattle.lists.specs.Lists.{every, written}
-use Rattle.lists.proofs.Tolds.{not_said}
+use Rattle.answers.proofs.AnswerLaws.{not_said}
 use Rattle.lists.proofs.Tests.{by_below, by_cond}
 use Rattle.lists.proofs.Writing.{length_written}
 use Rattle.orders.proofs.ReservoirLaws.{sample_length}
 use Rattle.orders.specs.ReservoirCalls.{short_refusal}
 use Rattle.std.specs.Prelude.{Result, Ok, Err}
 use Rattle.answers.specs.declared.Refusal.{Refusal}
-use Rattle.answers.specs.Refusals.{told}
+use Rattle.answers.specs.Refusals.{answer_of}
 use Rattle.choosers.specs.SlotCalls as Slots
 use Rattle.rounds.specs.declared.round.Round.{Round}
 use Rattle.rounds.specs.Rounds.{reservoir_of, State, state, After, AfterOpen, after_open, open_call, fitting}
@@ -42,17 +42,17 @@ possible_some admit e = omega arith
 possible_some join e = omega arith
 possible_some (withdraw x) e = omega arith
 
-one_readable : (s : State) (g : Ledger) → Shows s g → (x : Call) → Readable (call s x).told
+one_readable : (s : State) (g : Ledger) → Shows s g → (x : Call) → Readable (call s x).answer
 one_readable s g h x =
     ⊎_elim
-    (λ (r : Refuses s g x (call s x)). subst (λ (a : After (List ℕ)). Readable a.told) (sym r.is) (possible_some x))
-    (λ (t : Takes s g x (call s x)). subst Readable (sym t.told_is) (answer_readable g x))
+    (λ (r : Refuses s g x (call s x)). subst (λ (a : After (List ℕ)). Readable a.answer) (sym r.is) (possible_some x))
+    (λ (t : Takes s g x (call s x)). subst Readable (sym t.answer_is) (answer_readable g x))
     (outcome s g h x)
 
 all_readable : (calls : List Call) (s : State) (g : Ledger) → Shows s g → AllReadable (all_said s calls)
 unfolding all_said
 all_readable [] s g h = tt
-all_readable (x ∷ xs) s g h = (one_readable s g h x, all_readable xs (call s x).state (fed g x (is_refusal (call s x).told)) (step s g h x).1)
+all_readable (x ∷ xs) s g h = (one_readable s g h x, all_readable xs (call s x).state (fed g x (is_refusal (call s x).answer)) (step s g h x).1)
 
 length_said : (calls : List Call) (s : State) → length (all_said s calls) ≡ length calls
 unfolding all_said
@@ -60,21 +60,21 @@ length_said [] s = refl
 length_said (x ∷ xs) s = omega (arith, length_said xs (call s x).state)
 
 -- a plan's refusal has a number above 0
-plan_readable : (s : State) (ls ts : List ℕ) (places : ℕ) → Readable (map_told nothing_said (plan_call s ls ts places).told)
+plan_readable : (s : State) (ls ts : List ℕ) (places : ℕ) → Readable (map_answer nothing_said (plan_call s ls ts places).answer)
 unfolding plan_call
 plan_readable s ls ts places =
-    by_cond (λ (a : AfterPlan). Readable (map_told nothing_said a.told)) (fitting s) _ _
-    (λ y. by_cond (λ (a : AfterPlan). Readable (map_told nothing_said a.told))
+    by_cond (λ (a : AfterPlan). Readable (map_answer nothing_said a.answer)) (fitting s) _ _
+    (λ y. by_cond (λ (a : AfterPlan). Readable (map_answer nothing_said a.answer))
     (ltb (length ls) s.round.k || ltb (length ts) s.round.k || ltb places (min (length s.table) Slots.slot_limit)) _ _
     (λ y. (λ e. omega arith))
-    (λ n. by_cond (λ (a : AfterPlan). Readable (map_told nothing_said a.told)) (eqb (length (actives_of s)) 0) _ _
+    (λ n. by_cond (λ (a : AfterPlan). Readable (map_answer nothing_said a.answer)) (eqb (length (actives_of s)) 0) _ _
     (λ y. (λ e. omega arith))
     (λ n. tt)))
     (λ n. (λ e. omega arith))
 
-told_back : (w : Told (Unit {0})) → map_told (λ vs. tt) (map_told nothing_said w) ≡ w
-told_back (refusal w) = refl
-told_back (says u) = refl
+answer_back : (w : Answer (Unit {0})) → map_answer (λ vs. tt) (map_answer nothing_said w) ≡ w
+answer_back (refusal w) = refl
+answer_back (result u) = refl
 
 -- the lists keep their lengths
 pub plan_lengths : (s : State) → Kept s → (ls ts : List ℕ) (places : ℕ)
@@ -121,14 +121,14 @@ fed_all_k (x ∷ xs) g (false ∷ rs) = fed_all_k xs (accept g x) rs ∙ accept_
 -- ---- a run of calls, and the plan after it
 
 module _ (key k n : ℕ) (s : State) (o : Opens key k n s) (xs : List Call) (ws ls ts : List ℕ) (places : ℕ) where
-  abbrev said : List (Told (List ℕ))
+  abbrev said : List (Answer (List ℕ))
   said = all_said s xs
 
   abbrev p : AfterPlan
   p = plan_call (after_all s xs) ls ts places
 
   abbrev words : List ℕ
-  words = coded_all said ++ coded (map_told nothing_said p.told)
+  words = coded_all said ++ coded (map_answer nothing_said p.answer)
 
   begins : Shows s (first_ledger key k n)
   begins = open_shows key k n s o
@@ -151,21 +151,21 @@ module _ (key k n : ℕ) (s : State) (o : Opens key k n s) (xs : List Call) (ws 
       ap (λ (i : ℕ). shown_plan i p) (sym is-k)
       ∙ plan_is (after_all s xs) g follows.1 ls ts places (subst₂ (λ (i b : ℕ). Enough i b ls ts places) (sym is-k) (sym (all_bytes xs s)) e)
 
-  one_by_one : written words ws ≡ coded_all said ++ (coded (map_told nothing_said p.told) ++ drop (length words) ws)
+  one_by_one : written words ws ≡ coded_all said ++ (coded (map_answer nothing_said p.answer) ++ drop (length words) ws)
   unfolding written
-  one_by_one = append_assoc (coded_all said) (coded (map_told nothing_said p.told)) (drop (length words) ws)
+  one_by_one = append_assoc (coded_all said) (coded (map_answer nothing_said p.answer)) (drop (length words) ws)
 
   reads : read_all (length xs) (written words ws) ≡ said
   reads =
       (λ i. read_all (sym (length_said xs s) i) (one_by_one i))
-      ∙ read_all_lem said (coded (map_told nothing_said p.told) ++ drop (length words) ws) (all_readable xs s (first_ledger key k n) begins)
+      ∙ read_all_lem said (coded (map_answer nothing_said p.answer) ++ drop (length words) ws) (all_readable xs s (first_ledger key k n) begins)
 
-  reads_plan : map_told (λ vs. tt) (read_one (drop (4 * length xs) (written words ws))) ≡ p.told
+  reads_plan : map_answer (λ vs. tt) (read_one (drop (4 * length xs) (written words ws))) ≡ p.answer
   reads_plan =
-      ap (λ (l : List ℕ). map_told (λ vs. tt) (read_one l))
-      ((λ i. drop (4 * sym (length_said xs s) i) (one_by_one i)) ∙ drop_all said (coded (map_told nothing_said p.told) ++ drop (length words) ws))
-      ∙ ap (map_told (λ vs. tt)) (read_one_lem (map_told nothing_said p.told) (drop (length words) ws) (plan_readable (after_all s xs) ls ts places))
-      ∙ told_back p.told
+      ap (λ (l : List ℕ). map_answer (λ vs. tt) (read_one l))
+      ((λ i. drop (4 * sym (length_said xs s) i) (one_by_one i)) ∙ drop_all said (coded (map_answer nothing_said p.answer) ++ drop (length words) ws))
+      ∙ ap (map_answer (λ vs. tt)) (read_one_lem (map_answer nothing_said p.answer) (drop (length words) ws) (plan_readable (after_all s xs) ls ts places))
+      ∙ answer_back p.answer
 
   enough : Enough k (length s.table) p.locations p.terminals places → Enough k (length s.table) ls ts places
   enough e =
@@ -176,11 +176,11 @@ module _ (key k n : ℕ) (s : State) (o : Opens key k n s) (xs : List Call) (ws 
   unfolding planned_in
   run_ledger =
       record {
-        said = subst (λ (z : List (Told (List ℕ))). Agree (first_ledger key k n) xs z) (sym reads) follows.0;
+        said = subst (λ (z : List (Answer (List ℕ))). Agree (first_ledger key k n) xs z) (sym reads) follows.0;
         planned = λ e.
-            ap (λ (w : Told (Unit {0})). shown_plan k (after_plan w p.locations p.terminals)) reads_plan
+            ap (λ (w : Answer (Unit {0})). shown_plan k (after_plan w p.locations p.terminals)) reads_plan
             ∙ is_planned (enough e)
-            ∙ ap (λ (z : List (Told (List ℕ))). ledger_plan (fed_all (first_ledger key k n) xs (refusals z))) (sym reads);
+            ∙ ap (λ (z : List (Answer (List ℕ))). ledger_plan (fed_all (first_ledger key k n) xs (refusals z))) (sym reads);
       }
 
 -- ---- replay
@@ -188,18 +188,18 @@ module _ (key k n : ℕ) (s : State) (o : Opens key k n s) (xs : List Call) (ws 
 module _ (key k n : ℕ) (codes t ws ls ts : List ℕ) (places : ℕ) where
   -- demand 3 of what it leaves, where it is not refused
   abbrev Good : AfterReplay → Type 0
-  Good a = a.told ≡ says tt → ByLedger key k n (map call_of codes) (length t) places a.answers a.locations a.terminals
+  Good a = a.answer ≡ result tt → ByLedger key k n (map call_of codes) (length t) places a.answers a.locations a.terminals
 
-  refused_good : (w : ℕ) (a : AfterReplay) → a.told ≡ refusal w → Good a
+  refused_good : (w : ℕ) (a : AfterReplay) → a.answer ≡ refusal w → Good a
   refused_good w a e q = not_said w tt (sym e ∙ q)
 
-  opened_good : (o : AfterOpen) (l : List ℕ) → open_call key k n l ≡ o → Good (opened_run o.told o.list t (map call_of codes) ws ls ts places)
+  opened_good : (o : AfterOpen) (l : List ℕ) → open_call key k n l ≡ o → Good (opened_run o.answer o.list t (map call_of codes) ws ls ts places)
   unfolding run_of
-  opened_good o l e = by_told o.told (ap (λ (a : AfterOpen). a.told) e)
+  opened_good o l e = by_answer o.answer (ap (λ (a : AfterOpen). a.answer) e)
     where
-      by_told : (w : Told Round) → (open_call key k n l).told ≡ w → Good (opened_run w o.list t (map call_of codes) ws ls ts places)
-      by_told (refusal w) q = refused_good w (opened_run (refusal w) o.list t (map call_of codes) ws ls ts places) refl
-      by_told (says r) q = λ h. run_ledger key k n (state r o.list t) (record { lent = l; accepted = (λ i. after_open (q i) (e i).list) }) (map call_of codes) ws ls ts places
+      by_answer : (w : Answer Round) → (open_call key k n l).answer ≡ w → Good (opened_run w o.list t (map call_of codes) ws ls ts places)
+      by_answer (refusal w) q = refused_good w (opened_run (refusal w) o.list t (map call_of codes) ws ls ts places) refl
+      by_answer (result r) q = λ h. run_ledger key k n (state r o.list t) (record { lent = l; accepted = (λ i. after_open (q i) (e i).list) }) (map call_of codes) ws ls ts places
 
   replay_good : (l : List ℕ) → Good (replay_call key k n codes l t ws ls ts places)
   unfolding replay_call
@@ -212,7 +212,7 @@ module _ (key k n : ℕ) (codes t ws ls ts : List ℕ) (places : ℕ) where
 
 -- the second clause of replay's promise follows from the first
 pub replay_ledger : (key k n : ℕ) (codes l t ws ls ts : List ℕ) (places : ℕ) (o : Result (Unit {0}) Refusal) (l' t' ws' ls' ts' : List ℕ)
-    → after_replay (told o) l' t' ws' ls' ts' ≡ replay_call key k n codes l t ws ls ts places
+    → after_replay (answer_of o) l' t' ws' ls' ts' ≡ replay_call key k n codes l t ws ls ts places
     → Replayed o key k n codes (length t) places ws' ls' ts'
 replay_ledger key k n codes l t ws ls ts places (Err w) l' t' ws' ls' ts' e = tt
 replay_ledger key k n codes l t ws ls ts places (Ok u) l' t' ws' ls' ts' e =

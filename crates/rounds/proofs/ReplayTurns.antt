@@ -9,7 +9,7 @@ use native.Mathlib.Omega.{arith}
 use borrow.Author.Tests.{lt-ltb, le-ltb}
 use lib.ListN.{length, take, drop, get_or, length-append, length-map, drop_of_length-le}
 use lib.Seq.{drop-cons, drop-append-add, drop-drop, take_at, get_or_at, length-take-le}
-use Rattle.lists.specs.Told.{Told, refusal, says, map_told}
+use Rattle.answers.specs.Answers.{Answer, refusal, result, map_answer}
 use Rattle.std.proofs.Math.Seq.{take-length}
 use Rattle.std.specs.List.{list_all}
 use Rattle.lists.specs.Lists.{every, written}
@@ -17,7 +17,7 @@ use Rattle.lists.proofs.Ranges.{every_place}
 use Rattle.orders.specs.ReservoirCalls.{short_refusal}
 use Rattle.std.specs.Prelude.{Result, Ok, Err, is_ok}
 use Rattle.answers.specs.declared.Refusal.{Refusal}
-use Rattle.answers.specs.Refusals.{number, told}
+use Rattle.answers.specs.Refusals.{number, answer_of}
 use Rattle.rounds.specs.declared.replays.Call as numbered
 use Rattle.rounds.specs.declared.round.Round.{Round}
 use Rattle.rounds.specs.Rounds.{State, state, after_open, open_call}
@@ -66,15 +66,15 @@ placed_behind p xs ys ws e =
     rw (← e) (drop-append-add xs (drop (length xs) ws) (length ys) ∙ drop-drop (length ys) (length xs) ws ∙ ap (λ (k : ℕ). drop k ws) (sym (length-append xs ys))) in
     rw (seam, rest)
 
-coded_length : (a : Told (List ℕ)) → length (coded a) ≡ 4
+coded_length : (a : Answer (List ℕ)) → length (coded a) ≡ 4
 coded_length (refusal w) = refl
-coded_length (says vs) = refl
+coded_length (result vs) = refl
 
 -- ---- the answers of a list of calls, each over its four places from p on
 
 unfoldable pub placed_all : ℕ → State → List Call → List ℕ → List ℕ
 placed_all p s [] ws = ws
-placed_all p s (x ∷ xs) ws = placed_all (p + 4) (call s x).state xs (placed_at p (coded (call s x).told) ws)
+placed_all p s (x ∷ xs) ws = placed_all (p + 4) (call s x).state xs (placed_at p (coded (call s x).answer) ws)
 
 -- the calls from place i on
 abbrev pub calls_from : ℕ → List ℕ → List Call
@@ -119,10 +119,10 @@ unfolding placed_all all_said
 placed_all_lem p xs ws s [] e = rw (append-nil xs)
 placed_all_lem p xs ws s (x ∷ calls) e =
     let a = call s x in
-    let long : length (xs ++ coded a.told) ≡ p + 4 = length-append xs (coded a.told) ∙ omega (arith, coded_length a.told) in
-    ap (λ (r : List ℕ). placed_all (p + 4) a.state calls r) (placed_behind p xs (coded a.told) ws e)
-    ∙ placed_all_lem (p + 4) (xs ++ coded a.told) ws a.state calls long
-    ∙ ap (λ (r : List ℕ). written r ws) (append_assoc xs (coded a.told) (coded_all (all_said a.state calls)))
+    let long : length (xs ++ coded a.answer) ≡ p + 4 = length-append xs (coded a.answer) ∙ omega (arith, coded_length a.answer) in
+    ap (λ (r : List ℕ). placed_all (p + 4) a.state calls r) (placed_behind p xs (coded a.answer) ws e)
+    ∙ placed_all_lem (p + 4) (xs ++ coded a.answer) ws a.state calls long
+    ∙ ap (λ (r : List ℕ). written r ws) (append_assoc xs (coded a.answer) (coded_all (all_said a.state calls)))
 
 pub placed_written : (s : State) (calls : List Call) (ws : List ℕ) → placed_all 0 s calls ws ≡ written (coded_all (all_said s calls)) ws
 unfolding written
@@ -134,7 +134,7 @@ unfolding all_said
 said_length s [] = refl
 said_length s (x ∷ calls) =
     let a = call s x in
-    length-append (coded a.told) (coded_all (all_said a.state calls)) ∙ omega (arith, coded_length a.told, said_length a.state calls)
+    length-append (coded a.answer) (coded_all (all_said a.state calls)) ∙ omega (arith, coded_length a.answer, said_length a.state calls)
 
 -- ---- the calls and the plan after them
 
@@ -142,16 +142,16 @@ said_length s (x ∷ calls) =
 pub run_is : (s : State) (codes : List ℕ) (r : Round) (l t ws us ls ts : List ℕ) (places : ℕ) (o : Result (Unit {0}) Refusal) (a ws' ls' ts' : List ℕ)
     → state r l t ≡ after_all s (map call_of codes)
     → us ≡ written (coded_all (all_said s (map call_of codes))) ws
-    → after_plan (told o) ls' ts' ≡ plan_call (state r l t) ls ts places
-    → a ≡ coded (map_told nothing_said (told o))
+    → after_plan (answer_of o) ls' ts' ≡ plan_call (state r l t) ls ts places
+    → a ≡ coded (map_answer nothing_said (answer_of o))
     → ws' ≡ placed_at (4 * length codes) a us
-    → after_replay (says tt) l t ws' ls' ts' ≡ run_of s (map call_of codes) ws ls ts places
+    → after_replay (result tt) l t ws' ls' ts' ≡ run_of s (map call_of codes) ws ls ts places
 unfolding run_of
 run_is s codes r l t ws us ls ts places o a ws' ls' ts' ends said planned words put =
     let calls = map call_of codes in
     let long : length (coded_all (all_said s calls)) ≡ 4 * length codes = said_length s calls ∙ ap (λ (k : ℕ). 4 * k) (length-map codes call_of) in
-    let answers : ws' ≡ written (coded_all (all_said s calls) ++ coded (map_told nothing_said (told o))) ws =
-    rw (put, words, said) (placed_behind (4 * length codes) (coded_all (all_said s calls)) (coded (map_told nothing_said (told o))) ws long) in
+    let answers : ws' ≡ written (coded_all (all_said s calls) ++ coded (map_answer nothing_said (answer_of o))) ws =
+    rw (put, words, said) (placed_behind (4 * length codes) (coded_all (all_said s calls)) (coded (map_answer nothing_said (answer_of o))) ws long) in
     rw (answers, ← ends, ← planned)
 
 placed_first : (p a b c d : ℕ) (l : List ℕ) → p ≤ length l → get_or (placed_at p (a ∷ b ∷ c ∷ d ∷ []) l) p 0 ≡ a
@@ -159,7 +159,7 @@ unfolding placed_at
 placed_first p a b c d l h = rw (append_assoc (take p l) (a ∷ b ∷ c ∷ d ∷ []) (drop (p + 4) l)) (get_or_at (take p l) a (b ∷ c ∷ d ∷ drop (p + 4) l) 0 p (length-take-le p l h))
 
 -- the plan's answer tells whether the plan was refused, and so whether the scratch is as it was
-pub run_scratch : (c : ℕ) (o : Result (Unit {0}) Refusal) (a us ws before now : List ℕ) → 4 * c ≤ length us → a ≡ coded (map_told nothing_said (told o))
+pub run_scratch : (c : ℕ) (o : Result (Unit {0}) Refusal) (a us ws before now : List ℕ) → 4 * c ≤ length us → a ≡ coded (map_answer nothing_said (answer_of o))
     → ws ≡ placed_at (4 * c) a us → ScratchAfter o before now → ScratchRun c ws before now
 run_scratch c (Ok u) a us ws before now h words put kept =
     let first : get_or ws (4 * c) 0 ≡ 0 =
@@ -179,13 +179,13 @@ module _ (key k n : ℕ) (codes l t ws ls ts : List ℕ) (places : ℕ) where
   replay_short y m w e = rw (y, lt-ltb (length ws) (4 * length codes + 4) (omega arith), e)
 
   -- what open said, and the list that it left
-  module _ (y : every known codes ≡ true) (long : length codes < length ws / 4) (o : Result Round Refusal) (l' : List ℕ) (opens : after_open (told o) l' ≡ open_call key k n l) where
+  module _ (y : every known codes ≡ true) (long : length codes < length ws / 4) (o : Result Round Refusal) (l' : List ℕ) (opens : after_open (answer_of o) l' ≡ open_call key k n l) where
     pub replay_refused : (w : Refusal) → o ≡ Err w → after_replay (refusal (number w)) l' t ws ls ts ≡ replay_call key k n codes l t ws ls ts places
     unfolding replay_call
     replay_refused w m = rw (y, le-ltb (length ws) (4 * length codes + 4) (omega arith), ← opens, m)
 
     pub replay_run : (r : Round) (l'' t' ws' ls' ts' : List ℕ) → o ≡ Ok r
-        → after_replay (says tt) l'' t' ws' ls' ts' ≡ run_of (state r l' t) (map call_of codes) ws ls ts places
-        → after_replay (says tt) l'' t' ws' ls' ts' ≡ replay_call key k n codes l t ws ls ts places
+        → after_replay (result tt) l'' t' ws' ls' ts' ≡ run_of (state r l' t) (map call_of codes) ws ls ts places
+        → after_replay (result tt) l'' t' ws' ls' ts' ≡ replay_call key k n codes l t ws ls ts places
     unfolding replay_call
     replay_run r l'' t' ws' ls' ts' m e = rw (y, le-ltb (length ws) (4 * length codes + 4) (omega arith), ← opens, m) e

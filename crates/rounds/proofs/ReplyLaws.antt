@@ -10,7 +10,7 @@ use native.Mathlib.Numerals.{add-one}
 use borrow.Author.Tests.{lt-ltb, le-ltb, le-leb, lt-leb}
 use lib.ListN.{length}
 use Rattle.std.proofs.Math.Path.{subst₂}
-use Rattle.lists.specs.Told.{Told, refusal, says, map_told, is_refusal}
+use Rattle.answers.specs.Answers.{Answer, refusal, result, map_answer, is_refusal}
 use Rattle.lists.specs.Lists.{has}
 use Rattle.lists.proofs.Tests.{by_test, by_below, by_cond}
 use Rattle.orders.specs.declared.consistent_reservoir.ConsistentReservoir.{ConsistentReservoir}
@@ -53,7 +53,7 @@ module _ (s : State) (A : List ℕ) (kept : Kept s) (b : Bool) (now : ListAnew s
 
   -- what it says, and what its list is after it
   abbrev AdmitDone : After (List ℕ) → Type 0
-  AdmitDone z = (z.told ≡ reply g (length s.list) (length s.table) admit) × ListAnew z.state (b || is_none admit z.told)
+  AdmitDone z = (z.answer ≡ reply g (length s.list) (length s.table) admit) × ListAnew z.state (b || is_none admit z.answer)
 
   abbrev Part : Reservoir.After (Option (ℕ × ℕ)) → Type 0
   Part z = AdmitDone (valued exchanged (by_reservoir s z))
@@ -66,19 +66,19 @@ module _ (s : State) (A : List ℕ) (kept : Kept s) (b : Bool) (now : ListAnew s
         let t : too_short g (length s.list) (due_in g) ≡ true = rw (d, add-one v, lt-ltb (length s.list) (length (opening g.key g.k (suc v))) h) refl in
         rw t refl
 
-    reply_room : length (opening g.key g.k (suc v)) ≤ length s.list → says (answer g admit) ≡ reply g (length s.list) (length s.table) admit
+    reply_room : length (opening g.key g.k (suc v)) ≤ length s.list → result (answer g admit) ≡ reply g (length s.list) (length s.table) admit
     unfolding reply
     reply_room h =
         let t : too_short g (length s.list) (due_in g) ≡ false = rw (d, add-one v, le-ltb (length s.list) (length (opening g.key g.k (suc v))) h) refl in
         rw t refl
 
-  reply_none : due_in g ≡ none → says [] ≡ reply g (length s.list) (length s.table) admit
+  reply_none : due_in g ≡ none → result [] ≡ reply g (length s.list) (length s.table) admit
   unfolding reply answer
   reply_none d = rw d refl
 
-  admit_says : Admits (reservoir_of s.round) a → map_told exchanged a.told ≡ says (answer g admit)
+  admit_says : Admits (reservoir_of s.round) a → map_answer exchanged a.answer ≡ result (answer g admit)
   unfolding answer
-  admit_says m = ap (map_told exchanged) m.told_is
+  admit_says m = ap (map_answer exchanged) m.answer_is
 
   admit_part : AdmitAnew (reservoir_of s.round) s.list b a → Part a
   unfolding answer
@@ -86,8 +86,8 @@ module _ (s : State) (A : List ℕ) (kept : Kept s) (b : Bool) (now : ListAnew s
       subst Part (sym e) (reply_short v d h, or_none b false refl now)
   admit_part (finds_none d e m) = subst Part (sym e) (reply_none d, or_said b (subst (λ (z : Reservoir.After (Option (ℕ × ℕ))). Anew z.reservoir z.list true) e m))
   admit_part (brings_in v d h f m n) =
-      let c : is_none admit (map_told exchanged a.told) ≡ false = ap (is_none admit) (admit_says m) ∙ rw d refl in
-      (admit_says m ∙ reply_room v d h, or_none b (is_none admit (map_told exchanged a.told)) c (subst (Anew a.reservoir a.list) (sym f) n))
+      let c : is_none admit (map_answer exchanged a.answer) ≡ false = ap (is_none admit) (admit_says m) ∙ rw d refl in
+      (admit_says m ∙ reply_room v d h, or_none b (is_none admit (map_answer exchanged a.answer)) c (subst (Anew a.reservoir a.list) (sym f) n))
 
   admit_done : AdmitDone (call s admit)
   unfolding call admit_call
@@ -97,23 +97,23 @@ module _ (s : State) (A : List ℕ) (kept : Kept s) (b : Bool) (now : ListAnew s
 
 -- ---- a join and a withdraw: the reservoir and its list stay
 
-join_said : (s : State) (g : Ledger) → Shows s g → (call s join).told ≡ reply g (length s.list) (length s.table) join
+join_said : (s : State) (g : Ledger) → Shows s g → (call s join).answer ≡ reply g (length s.list) (length s.table) join
 unfolding reply
 join_said s g h =
     ⊎_elim
-    (λ (r : Refuses s g join (call s join)). ap (λ (a : After (List ℕ)). a.told) r.is ∙ rw (le-leb (min (length s.table) Slots.slot_limit) (free_slot g) r.no_room) refl)
+    (λ (r : Refuses s g join (call s join)). ap (λ (a : After (List ℕ)). a.answer) r.is ∙ rw (le-leb (min (length s.table) Slots.slot_limit) (free_slot g) r.no_room) refl)
     (λ (t : Takes s g join (call s join)). by_below (free_slot g) (min (length s.table) Slots.slot_limit)
-    (λ l. t.told_is ∙ rw (lt-leb (min (length s.table) Slots.slot_limit) (free_slot g) l) refl)
+    (λ l. t.answer_is ∙ rw (lt-leb (min (length s.table) Slots.slot_limit) (free_slot g) l) refl)
     (λ l. absurd (t.room l)))
     (outcome s g h join)
 
-withdraw_said : (s : State) (g : Ledger) → Shows s g → (x : ℕ) → (call s (withdraw x)).told ≡ reply g (length s.list) (length s.table) (withdraw x)
+withdraw_said : (s : State) (g : Ledger) → Shows s g → (x : ℕ) → (call s (withdraw x)).answer ≡ reply g (length s.list) (length s.table) (withdraw x)
 unfolding reply
 withdraw_said s g h x =
     ⊎_elim
-    (λ (r : Refuses s g (withdraw x) (call s (withdraw x))). ap (λ (a : After (List ℕ)). a.told) r.is ∙ rw r.no_room refl)
+    (λ (r : Refuses s g (withdraw x) (call s (withdraw x))). ap (λ (a : After (List ℕ)). a.answer) r.is ∙ rw r.no_room refl)
     (λ (t : Takes s g (withdraw x) (call s (withdraw x))). by_test (has x g.A)
-    (λ y. t.told_is ∙ rw y refl)
+    (λ y. t.answer_is ∙ rw y refl)
     (λ n. absurd (t.room n)))
     (outcome s g h (withdraw x))
 
@@ -128,13 +128,13 @@ module _ (s : State) (b : Bool) (now : ListAnew s b) where
 
 -- ---- every call of a round that shows a ledger
 
-pub call_said : (s : State) (g : Ledger) → Shows s g → (b : Bool) → ListAnew s b → (x : Call) → (call s x).told ≡ reply g (length s.list) (length s.table) x
+pub call_said : (s : State) (g : Ledger) → Shows s g → (b : Bool) → ListAnew s b → (x : Call) → (call s x).answer ≡ reply g (length s.list) (length s.table) x
 call_said s g h b now admit =
-    subst (λ (z : Ledger). (call s admit).told ≡ reply z (length s.list) (length s.table) admit) h.numbers (admit_done s g.A h.kept b now).0
+    subst (λ (z : Ledger). (call s admit).answer ≡ reply z (length s.list) (length s.table) admit) h.numbers (admit_done s g.A h.kept b now).0
 call_said s g h b now join = join_said s g h
 call_said s g h b now (withdraw x) = withdraw_said s g h x
 
-pub call_anew : (s : State) → Kept s → (b : Bool) → ListAnew s b → (x : Call) → ListAnew (call s x).state (b || is_none x (call s x).told)
+pub call_anew : (s : State) → Kept s → (b : Bool) → ListAnew s b → (x : Call) → ListAnew (call s x).state (b || is_none x (call s x).answer)
 call_anew s kept b now admit = (admit_done s (actives_of s) kept b now).1
 call_anew s kept b now join = or_none b false refl (join_anew s b now)
 call_anew s kept b now (withdraw x) = or_none b false refl (withdraw_anew s b now x)
@@ -146,16 +146,16 @@ refused_none admit c = refl
 refused_none join c = refl
 refused_none (withdraw x) c = refl
 
-counts_anew : {s t : State} {x : Call} {w : Told (List ℕ)} → Kept s → (b : Bool) → ListAnew s b → Counts s x w t → ListAnew t (b || is_none x w)
-counts_anew {s = s} {x = x} kept b now (as_call e) = subst (λ (a : After (List ℕ)). ListAnew a.state (b || is_none x a.told)) (sym e) (call_anew s kept b now x)
-counts_anew {s = s} {x = x} kept b now (as_none c told left) =
-    subst₂ (λ (v : Told (List ℕ)) (u : State). ListAnew u (b || is_none x v)) (sym told) (sym left) (or_none b (is_none x (refusal c)) (refused_none x c) now)
+counts_anew : {s t : State} {x : Call} {w : Answer (List ℕ)} → Kept s → (b : Bool) → ListAnew s b → Counts s x w t → ListAnew t (b || is_none x w)
+counts_anew {s = s} {x = x} kept b now (as_call e) = subst (λ (a : After (List ℕ)). ListAnew a.state (b || is_none x a.answer)) (sym e) (call_anew s kept b now x)
+counts_anew {s = s} {x = x} kept b now (as_none c answer_of left) =
+    subst₂ (λ (v : Answer (List ℕ)) (u : State). ListAnew u (b || is_none x v)) (sym answer_of) (sym left) (or_none b (is_none x (refusal c)) (refused_none x c) now)
 
 or_assoc : (a b c : Bool) → (a || b) || c ≡ a || (b || c)
 or_assoc true b c = refl
 or_assoc false b c = refl
 
-made_anew : {s u : State} {xs : List Call} {ws : List (Told (List ℕ))} (g : Ledger) → Shows s g → (b : Bool) → ListAnew s b → AllMade s xs ws u
+made_anew : {s u : State} {xs : List Call} {ws : List (Answer (List ℕ))} (g : Ledger) → Shows s g → (b : Bool) → ListAnew s b → AllMade s xs ws u
     → ListAnew u (b || said_none xs ws)
 made_anew g h b now (made_none s) = or_none b false refl now
 made_anew g h b now (made_next {u = u} {x = x} {w = w} {xs = xs} {ws = ws} m ms) =
@@ -171,5 +171,5 @@ reached_anew s h =
     made_anew (first_ledger h.key h.k h.n) (open_shows h.key h.k h.n h.start h.opens) false (open_list_anew h.key h.k h.n h.start h.opens) h.made
 
 -- THE LAW of what is said
-pub reached_said : (s : State) (h : Reached s) (g : Ledger) → Shows s g → (x : Call) → (call s x).told ≡ reply g (length s.list) (length s.table) x
+pub reached_said : (s : State) (h : Reached s) (g : Ledger) → Shows s g → (x : Call) → (call s x).answer ≡ reply g (length s.list) (length s.table) x
 reached_said s h g shows x = call_said s g shows (said_none h.calls h.answers) (reached_anew s h) x

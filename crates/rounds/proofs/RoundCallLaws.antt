@@ -7,9 +7,9 @@ use Prim.Native.Nat.{ℕ}
 use lib.Dec.{eqb}
 use lib.ListN.{length}
 use Rattle.std.specs.Prelude.{Option, Result, Ok, Err}
-use Rattle.lists.specs.Told.{refusal, says, map_told}
+use Rattle.answers.specs.Answers.{refusal, result, map_answer}
 use Rattle.answers.specs.declared.Refusal.{Refusal}
-use Rattle.answers.specs.Refusals.{number, told}
+use Rattle.answers.specs.Refusals.{number, answer_of}
 use Rattle.lists.proofs.Tests.{by_test}
 use Rattle.lists.proofs.Keeping.{both}
 use Rattle.orders.specs.declared.consistent_reservoir.ConsistentReservoir.{ConsistentReservoir}
@@ -27,16 +27,16 @@ use Rattle.rounds.specs.InnerRounds.{begun, with_reservoir, with_map, idle_of}
 -- ---- open
 
 -- what the reservoir's open says and leaves, as the round's
-module _ (key k n : ℕ) (l after : List ℕ) (o : Result ConsistentReservoir Refusal) (is : Reservoir.after_open (told o) after ≡ Reservoir.open_call k n key l) where
-  open_by : after_open (map_told begun (told o)) after ≡ open_call key k n l
+module _ (key k n : ℕ) (l after : List ℕ) (o : Result ConsistentReservoir Refusal) (is : Reservoir.after_open (answer_of o) after ≡ Reservoir.open_call k n key l) where
+  open_by : after_open (map_answer begun (answer_of o)) after ≡ open_call key k n l
   unfolding open_call
-  open_by = ap (λ (x : Reservoir.AfterOpen). after_open (map_told begun x.told) x.list) is
+  open_by = ap (λ (x : Reservoir.AfterOpen). after_open (map_answer begun x.answer) x.list) is
 
-  pub open_made : (a : ConsistentReservoir) (r : Round) → o ≡ Ok a → r ≡ begun a → after_open (says r) after ≡ open_call key k n l
-  open_made a r e f = ap (λ (x : Round). after_open (says x) after) f ∙ ap (λ (x : Result ConsistentReservoir Refusal). after_open (map_told begun (told x)) after) (sym e) ∙ open_by
+  pub open_made : (a : ConsistentReservoir) (r : Round) → o ≡ Ok a → r ≡ begun a → after_open (result r) after ≡ open_call key k n l
+  open_made a r e f = ap (λ (x : Round). after_open (result x) after) f ∙ ap (λ (x : Result ConsistentReservoir Refusal). after_open (map_answer begun (answer_of x)) after) (sym e) ∙ open_by
 
   pub open_refused : (w : Refusal) → o ≡ Err w → after_open (refusal (number w)) after ≡ open_call key k n l
-  open_refused w e = ap (λ (x : Result ConsistentReservoir Refusal). after_open (map_told begun (told x)) after) (sym e) ∙ open_by
+  open_refused w e = ap (λ (x : Result ConsistentReservoir Refusal). after_open (map_answer begun (answer_of x)) after) (sym e) ∙ open_by
 
 -- ---- the test of refusal 12
 
@@ -91,10 +91,10 @@ module _ (r : Round) (l t : List ℕ) where
       (λ m. rw (table_fit ok, m, admit_unfit (reservoir_of r) l m))
 
   pub admit_code : Slots.fitting (map_of r) t ≡ true → (a b : ConsistentReservoir) (e : Result (Option Exchange) Refusal) (l' : List ℕ) (s : Round)
-      → a ≡ reservoir_of r → Reservoir.after (Reservoir.told_exchange e) b l' ≡ Reservoir.admit_call a l → s ≡ with_reservoir r b
-      → after (Reservoir.told_exchange e) (state s l' t) ≡ admit_call (state r l t)
+      → a ≡ reservoir_of r → Reservoir.after (Reservoir.answer_of_exchange e) b l' ≡ Reservoir.admit_call a l → s ≡ with_reservoir r b
+      → after (Reservoir.answer_of_exchange e) (state s l' t) ≡ admit_call (state r l t)
   admit_code ok a b e l' s f g h =
-      ap (λ (x : Round). after (Reservoir.told_exchange e) (state x l' t)) h
+      ap (λ (x : Round). after (Reservoir.answer_of_exchange e) (state x l' t)) h
       ∙ ap (by_reservoir (state r l t)) (g ∙ ap (λ (x : ConsistentReservoir). Reservoir.admit_call x l) f)
       ∙ admit_by ok
 
@@ -113,10 +113,10 @@ module _ (r : Round) (l t : List ℕ) where
       (λ m. rw (list_fit ok, m, add_unfit (map_of r) t m))
 
   pub join_code : Reservoir.fitting (reservoir_of r) l ≡ true → (m b : ConsistentNodeMap) (y : Result ℕ Refusal) (t' : List ℕ) (s : Round)
-      → m ≡ map_of r → Slots.after (told y) b t' ≡ Slots.add_call m t → s ≡ with_map r b
-      → after (told y) (state s l t') ≡ join_call (state r l t)
+      → m ≡ map_of r → Slots.after (answer_of y) b t' ≡ Slots.add_call m t → s ≡ with_map r b
+      → after (answer_of y) (state s l t') ≡ join_call (state r l t)
   join_code ok m b y t' s f g h =
-      ap (λ (x : Round). after (told y) (state x l t')) h
+      ap (λ (x : Round). after (answer_of y) (state x l t')) h
       ∙ ap (by_slots (state r l t)) (g ∙ ap (λ (x : ConsistentNodeMap). Slots.add_call x t) f)
       ∙ join_by ok
 
@@ -135,10 +135,10 @@ module _ (r : Round) (l t : List ℕ) where
         (λ m. rw (list_fit ok, m, remove_unfit (map_of r) t x m))
 
     pub withdraw_code : Reservoir.fitting (reservoir_of r) l ≡ true → (m b : ConsistentNodeMap) (o : Result (Unit {0}) Refusal) (t' : List ℕ) (s : Round)
-        → m ≡ map_of r → Slots.after (told o) b t' ≡ Slots.remove_call m t x → s ≡ with_map r b
-        → after (told o) (state s l t') ≡ withdraw_call (state r l t) x
+        → m ≡ map_of r → Slots.after (answer_of o) b t' ≡ Slots.remove_call m t x → s ≡ with_map r b
+        → after (answer_of o) (state s l t') ≡ withdraw_call (state r l t) x
     withdraw_code ok m b o t' s f g h =
-        ap (λ (y : Round). after (told o) (state y l t')) h
+        ap (λ (y : Round). after (answer_of o) (state y l t')) h
         ∙ ap (by_slots (state r l t)) (g ∙ ap (λ (y : ConsistentNodeMap). Slots.remove_call y t x) f)
         ∙ withdraw_by ok
 
@@ -157,5 +157,5 @@ module _ (r : Round) (l t : List ℕ) where
       (λ m. query_unfit (map_of r) t none m ∙ rw (list_fit ok, m))
 
   pub idle_code : Reservoir.fitting (reservoir_of r) l ≡ true → (m : ConsistentNodeMap) (b : Result Bool Refusal)
-      → m ≡ map_of r → told b ≡ Slots.is_empty_call m t → told b ≡ idle_of (state r l t)
+      → m ≡ map_of r → answer_of b ≡ Slots.is_empty_call m t → answer_of b ≡ idle_of (state r l t)
   idle_code ok m b e f = f ∙ ap (λ (x : ConsistentNodeMap). Slots.is_empty_call x t) e ∙ idle_by ok

@@ -11,9 +11,9 @@ use native.Mathlib.Omega.{arith}
 use borrow.Author.Tests.{eq-eqb, ne_eqb}
 use lib.Dec.{eqb}
 use lib.ListN.{length}
-use Rattle.lists.specs.Told.{Told, says, map_told, is_refusal}
+use Rattle.answers.specs.Answers.{Answer, result, map_answer, is_refusal}
 use Rattle.lists.specs.Lists.{has, without}
-use Rattle.lists.proofs.Tolds.{not_said}
+use Rattle.answers.proofs.AnswerLaws.{not_said}
 use Rattle.lists.proofs.Tests.{by_test, by_below, by_same, by_cond}
 use Rattle.lists.proofs.Searching.{first_same}
 use Rattle.orders.specs.ReservoirCalls as Reservoir
@@ -55,7 +55,7 @@ pub record Refuses (s : State) (g : Ledger) (x : Call) (a : After (List ℕ)) : 
 
 pub record Takes (s : State) (g : Ledger) (x : Call) (a : After (List ℕ)) : Type 0 where
   pub room : NoRoom s g x → ⊥
-  pub told_is : a.told ≡ says (answer g x)
+  pub answer_is : a.answer ≡ result (answer g x)
   pub shows : Shows a.state (accept g x)
 
 abbrev pub Outcome : State → Ledger → Call → After (List ℕ) → Type 0
@@ -78,8 +78,8 @@ module _ (s : State) (A : List ℕ) (set : Same (actives_of s) A) (kept : Kept s
   unfolding accept answer
   admit_takes m = record {
     room = λ (h : Short (reservoir_of s.round) s.list (Reservoir.admit_call (reservoir_of s.round) s.list)).
-        not_said 4 _ (sym (ap (λ (a : Reservoir.After (Option (ℕ × ℕ))). a.told) h.is_refused) ∙ m.told_is);
-    told_is = ap (map_told exchanged) m.told_is;
+        not_said 4 _ (sym (ap (λ (a : Reservoir.After (Option (ℕ × ℕ))). a.answer) h.is_refused) ∙ m.answer_is);
+    answer_is = ap (map_answer exchanged) m.answer_is;
     shows = record {
       numbers = λ i. ledger (m.key_is i) (m.k_is i) (m.n_is i) A s.round.total;
       set = set;
@@ -123,10 +123,10 @@ module _ (s : State) (A : List ℕ) (set : Same (actives_of s) A) (kept : Kept s
   join_takes : v < min (length s.table) Slots.slot_limit → Takes s g join (valued slot_said (by_slots s (Slots.add_call m s.table)))
   unfolding accept answer
   join_takes r =
-      let e : (Slots.add_call m s.table).told ≡ says v = add_room m s.table kept.table r in
+      let e : (Slots.add_call m s.table).answer ≡ result v = add_room m s.table kept.table r in
       record {
         room = λ h. omega (arith, h, vacant_free);
-        told_is = ap (map_told slot_said) e ∙ ap (λ (x : ℕ). says (x ∷ [])) vacant_free;
+        answer_is = ap (map_answer slot_said) e ∙ ap (λ (x : ℕ). result (x ∷ [])) vacant_free;
         shows = record {
           numbers = λ i. ledger g.key g.k g.n (free_slot g ∷ A) ((add_count m s.table v e ∙ count_up) i);
           set = λ x. add_actives m s.table v e x ∙ same_put v (actives_of s) A set x ∙ ap (λ (y : ℕ). has x (y ∷ A)) vacant_free;
@@ -157,10 +157,10 @@ module _ (s : State) (A : List ℕ) (set : Same (actives_of s) A) (kept : Kept s
     withdraw_takes : active s.table s.round.total x ≡ true → Takes s g (withdraw x) (valued nothing_said (by_slots s (Slots.remove_call m s.table x)))
     unfolding accept answer
     withdraw_takes y =
-        let e : (Slots.remove_call m s.table x).told ≡ says tt = remove_active m s.table x kept.table y in
+        let e : (Slots.remove_call m s.table x).answer ≡ result tt = remove_active m s.table x kept.table y in
         record {
           room = λ h. true≢false (sym (sym (set x) ∙ has_actives s.table s.round.total x ∙ y) ∙ h);
-          told_is = ap (map_told nothing_said) e;
+          answer_is = ap (map_answer nothing_said) e;
           shows = record {
             numbers = λ i. ledger g.key g.k g.n (without x A) ((remove_count m s.table x e ∙ count_down) i);
             set = λ z. ap (has z) (remove_actives m s.table x e) ∙ same_without x (actives_of s) A set z;
@@ -191,14 +191,14 @@ outcome s g h x = subst (λ (z : Ledger). Outcome s z x (call s x)) h.numbers (o
 -- ---- a step: the answer is the ledger's where it is no refusal, and the round after it shows the ledger fed with it
 
 -- what an answer w, and t after it, are to the ledger
-abbrev pub Follows : Ledger → Call → Told (List ℕ) → State → Type 0
+abbrev pub Follows : Ledger → Call → Answer (List ℕ) → State → Type 0
 Follows g x w t = agrees g x w × Shows t (fed g x (is_refusal w))
 
-pub step : (s : State) (g : Ledger) → Shows s g → (x : Call) → Follows g x (call s x).told (call s x).state
+pub step : (s : State) (g : Ledger) → Shows s g → (x : Call) → Follows g x (call s x).answer (call s x).state
 step s g h x =
     ⊎_elim
-    (λ (r : Refuses s g x (call s x)). subst (λ (a : After (List ℕ)). Follows g x a.told a.state) (sym r.is) (tt, h))
-    (λ (t : Takes s g x (call s x)). subst (λ (w : Told (List ℕ)). Follows g x w (call s x).state) (sym t.told_is) (refl, t.shows))
+    (λ (r : Refuses s g x (call s x)). subst (λ (a : After (List ℕ)). Follows g x a.answer a.state) (sym r.is) (tt, h))
+    (λ (t : Takes s g x (call s x)). subst (λ (w : Answer (List ℕ)). Follows g x w (call s x).state) (sym t.answer_is) (refl, t.shows))
     (outcome s g h x)
 
 -- the list and the table keep their lengths

@@ -2,10 +2,10 @@
 -- Assumes nothing.
 use Rattle.std.specs.Prelude.{◌≡◌, ◌⊎◌, ◌≢◌, true, false, cond, List, [], ◌∷◌, ℕ, ◌≤◌, min, eqb, length, Result}
 use Rattle.std.proofs.Math.Option.{Option, none, some}
-use Rattle.lists.specs.Told.{Told, refusal, says, is_refusal}
+use Rattle.answers.specs.Answers.{Answer, refusal, result, is_refusal}
 use Rattle.lists.specs.Lists.{has, Exchanges}
 use Rattle.answers.specs.declared.Refusal.{Refusal}
-use Rattle.answers.specs.Refusals.{told}
+use Rattle.answers.specs.Refusals.{answer_of}
 use Rattle.choosers.specs.Slots.{active}
 use Rattle.choosers.specs.SlotCalls.{slot_limit}
 use Rattle.rounds.specs.Rounds.{State}
@@ -23,7 +23,7 @@ pub record Reached (s : State) : Type 0 where
   pub start : State
   pub opens : Opens key k n start
   pub calls : List Call
-  pub answers : List (Told (List ℕ))
+  pub answers : List (Answer (List ℕ))
   pub made : AllMade start calls answers s
 
 -- 01: "Fed are the open's key, k and n, then the calls in order, each by name with its numbers but no memory, and whether it was
@@ -39,11 +39,11 @@ pub record Shown (s : State) (g : Ledger) : Type 0 where
   pub active : (x : ℕ) → active s.table s.round.total x ≡ has x g.A
 
 -- Each answer that is no refusal is the ledger's, which is fed with the calls before it and whether they were refused.
-abbrev pub agrees : Ledger → Call → Told (List ℕ) → Type 0
+abbrev pub agrees : Ledger → Call → Answer (List ℕ) → Type 0
 agrees g x (refusal w) = Unit {0}
-agrees g x (says vs) = vs ≡ answer g x
+agrees g x (result vs) = vs ≡ answer g x
 
-unfoldable pub Agree : Ledger → List Call → List (Told (List ℕ)) → Type 0
+unfoldable pub Agree : Ledger → List Call → List (Answer (List ℕ)) → Type 0
 Agree g [] [] = Unit {0}
 Agree g [] (a ∷ ws) = ⊥
 Agree g (x ∷ xs) [] = ⊥
@@ -59,7 +59,7 @@ pub record Enough (k bytes : ℕ) (ls ts : List ℕ) (places : ℕ) : Type 0 whe
 
 -- p is the plan of s: lent were lists and scratch long enough, and by plan's promise it answered o and left the two lists. A round has
 -- one plan, whatever is lent.
-pub record PlanOf (s : State) (p : Told (List Sheet)) : Type 0 where
+pub record PlanOf (s : State) (p : Answer (List Sheet)) : Type 0 where
   pub ls : List ℕ
   pub ts : List ℕ
   pub places : ℕ
@@ -67,8 +67,8 @@ pub record PlanOf (s : State) (p : Told (List Sheet)) : Type 0 where
   pub o : Result (Unit {0}) Refusal
   pub ls' : List ℕ
   pub ts' : List ℕ
-  pub promise : after_plan (told o) ls' ts' ≡ plan_call s ls ts places
-  pub is : shown_plan s.round.k (after_plan (told o) ls' ts') ≡ p
+  pub promise : after_plan (answer_of o) ls' ts' ≡ plan_call s ls ts places
+  pub is : shown_plan s.round.k (after_plan (answer_of o) ls' ts') ≡ p
 
 -- no slot is active
 abbrev pub NoneActive : State → Type 0
@@ -89,12 +89,12 @@ terminal_in x [] = none
 terminal_in x (s ∷ ss) = cond (eqb s.location x) s.terminal (terminal_in x ss)
 
 -- the terminal that a plan gives a location; 01: "a refused plan gives none"
-unfoldable pub terminal : Told (List Sheet) → ℕ → Option ℕ
+unfoldable pub terminal : Answer (List Sheet) → ℕ → Option ℕ
 terminal (refusal w) x = none
-terminal (says ss) x = terminal_in x ss
+terminal (result ss) x = terminal_in x ss
 
 -- 01: "A location moves if its terminal before and after differs"
-abbrev pub Moves : Told (List Sheet) → Told (List Sheet) → ℕ → Type 0
+abbrev pub Moves : Answer (List Sheet) → Answer (List Sheet) → ℕ → Type 0
 Moves before now x = terminal before x ≢ terminal now x
 
 -- the two locations that an admit names come in and go out, or, where it names none, nothing changes
@@ -106,24 +106,24 @@ SampleMoves before now vs = ((vs ≡ []) × (now ≡ before)) ⊎ ((v : ℕ) × 
 pub record Demand3 : Type 0 where
   -- "The plan, asked with lists and scratch long enough, gives at each place the location and terminal that 01's ledger defines from
   -- key, k, the n reached and the set of active terminals alone."
-  pub planned : (s : State) (h : Reached s) (p : Told (List Sheet)) → PlanOf s p → p ≡ ledger_plan (ledger_of h)
+  pub planned : (s : State) (h : Reached s) (p : Answer (List Sheet)) → PlanOf s p → p ≡ ledger_plan (ledger_of h)
   -- 01: "A is the active terminals, n the n reached."
   pub shown : (s : State) (h : Reached s) → Shown s (ledger_of h)
   -- "It is refusal 11 exactly when none is active."
-  pub eleven : (s : State) → Reached s → (p : Told (List Sheet)) → PlanOf s p → (p ≡ refusal 11 → NoneActive s) × (NoneActive s → p ≡ refusal 11)
+  pub eleven : (s : State) → Reached s → (p : Answer (List Sheet)) → PlanOf s p → (p ≡ refusal 11 → NoneActive s) × (NoneActive s → p ≡ refusal 11)
   -- "Rounds so reached and alike in these four have the same plan."
-  pub same_plan : (s t : State) → Reached s → Reached t → Alike s t → (p q : Told (List Sheet)) → PlanOf s p → PlanOf t q → p ≡ q
+  pub same_plan : (s t : State) → Reached s → Reached t → Alike s t → (p q : Answer (List Sheet)) → PlanOf s p → PlanOf t q → p ≡ q
   -- "Every admit and join not refused answers as the ledger does."
   pub answered : (s : State) (h : Reached s) → Agree (first_ledger h.key h.k h.n) h.calls h.answers
   -- "Hence an accepted withdraw moves only the locations of the terminal withdrawn,"
-  pub withdrawn : (s t : State) → Reached s → (x : ℕ) (vs : List ℕ) → Made s (withdraw x) (says vs) t
-      → (p q : Told (List Sheet)) → PlanOf s p → PlanOf t q → (y : ℕ) → Moves p q y → terminal p y ≡ some x
+  pub withdrawn : (s t : State) → Reached s → (x : ℕ) (vs : List ℕ) → Made s (withdraw x) (result vs) t
+      → (p q : Answer (List Sheet)) → PlanOf s p → PlanOf t q → (y : ℕ) → Moves p q y → terminal p y ≡ some x
   -- "and an accepted join moves locations only to the joiner."
-  pub joined : (s t : State) → Reached s → (x : ℕ) → Made s join (says (x ∷ [])) t
-      → (p q : Told (List Sheet)) → PlanOf s p → PlanOf t q → (y : ℕ) → Moves p q y → terminal q y ≡ some x
+  pub joined : (s t : State) → Reached s → (x : ℕ) → Made s join (result (x ∷ [])) t
+      → (p q : Answer (List Sheet)) → PlanOf s p → PlanOf t q → (y : ℕ) → Moves p q y → terminal q y ≡ some x
   -- "An admit changes the sample by exactly the two locations it names, one out and one in, or not at all; the others keep .. relative
   -- order."
-  pub sampled : (s t : State) → Reached s → (vs : List ℕ) → Made s admit (says vs) t → SampleMoves (sampled s) (sampled t) vs
+  pub sampled : (s t : State) → Reached s → (vs : List ℕ) → Made s admit (result vs) t → SampleMoves (sampled s) (sampled t) vs
   -- "the others keep terminal": only the two that it names move
-  pub kept : (s t : State) → Reached s → (vs : List ℕ) → Made s admit (says vs) t
-      → (p q : Told (List Sheet)) → PlanOf s p → PlanOf t q → (y : ℕ) → Moves p q y → has y vs ≡ true
+  pub kept : (s t : State) → Reached s → (vs : List ℕ) → Made s admit (result vs) t
+      → (p q : Answer (List Sheet)) → PlanOf s p → PlanOf t q → (y : ℕ) → Moves p q y → has y vs ≡ true

@@ -2,7 +2,7 @@
 -- the same.
 -- Assumes nothing.
 use Rattle.std.specs.Prelude.{◌≡◌, ◌≢◌, Bool, true, false, cond, ◌||◌, List, [], ◌∷◌, ℕ, length}
-use Rattle.lists.specs.Told.{Told, refusal, says}
+use Rattle.answers.specs.Answers.{Answer, refusal, result}
 use Rattle.orders.specs.ReservoirCalls.{listed}
 use Rattle.rounds.specs.Rounds.{State, reservoir_of}
 use Rattle.rounds.specs.Ledgers.{Call, admit, join, withdraw, Sheet}
@@ -15,23 +15,23 @@ use Rattle.rounds.specs.Demand3.{Reached, PlanOf, Alike}
 pub record SameAfter (s t : State) (calls : List Call) : Type 0 where
   pub answers : all_said s calls ≡ all_said t calls
   pub alike : Alike (after_all s calls) (after_all t calls)
-  pub plans : (p q : Told (List Sheet)) → PlanOf (after_all s calls) p → PlanOf (after_all t calls) q → p ≡ q
+  pub plans : (p q : Answer (List Sheet)) → PlanOf (after_all s calls) p → PlanOf (after_all t calls) q → p ≡ q
 
 -- no answer is refusal 4 or 9
-abbrev pub NeverShort : List (Told (List ℕ)) → Type 0
+abbrev pub NeverShort : List (Answer (List ℕ)) → Type 0
 NeverShort [] = Unit {0}
 NeverShort (w ∷ ws) = (w ≢ refusal 4) × (w ≢ refusal 9) × NeverShort ws
 
 -- whether a call is an admit that said none
-abbrev pub is_none : Call → Told (List ℕ) → Bool
-is_none admit (says []) = true
-is_none admit (says (v ∷ vs)) = false
+abbrev pub is_none : Call → Answer (List ℕ) → Bool
+is_none admit (result []) = true
+is_none admit (result (v ∷ vs)) = false
 is_none admit (refusal w) = false
 is_none join w = false
 is_none (withdraw x) w = false
 
 -- whether one of the calls is
-abbrev pub said_none : List Call → List (Told (List ℕ)) → Bool
+abbrev pub said_none : List Call → List (Answer (List ℕ)) → Bool
 said_none [] ws = false
 said_none (x ∷ xs) [] = false
 said_none (x ∷ xs) (w ∷ ws) = is_none x w || said_none xs ws

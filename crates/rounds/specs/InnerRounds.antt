@@ -2,7 +2,7 @@
 -- Assumes nothing.
 use Rattle.std.specs.Prelude.{Bool, cond, List, ℕ, eqb, length}
 use Rattle.std.proofs.Math.Option.{get_or}
-use Rattle.lists.specs.Told.{Told, refusal, says}
+use Rattle.answers.specs.Answers.{Answer, refusal, result}
 use Rattle.orders.specs.declared.consistent_reservoir.ConsistentReservoir.{ConsistentReservoir}
 use Rattle.choosers.specs.declared.node_map.ConsistentNodeMap.{ConsistentNodeMap}
 use Rattle.choosers.specs.Slots.{actives, state_of}
@@ -20,8 +20,8 @@ abbrev pub with_map : Round → ConsistentNodeMap → Round
 with_map r m = round_of (reservoir_of r) m
 
 -- whether no slot is active, of a record that fits its memory
-unfoldable pub idle_of : State → Told Bool
-idle_of s = cond (fitting s) (says (eqb (length (actives s.table s.round.total)) 0)) (refusal 12)
+unfoldable pub idle_of : State → Answer Bool
+idle_of s = cond (fitting s) (result (eqb (length (actives s.table s.round.total)) 0)) (refusal 12)
 
 -- the slot of location x that the lookup finds with a scratch of so many places, 0 where it finds none
 unfoldable pub dealt_to : ℕ → ℕ → List ℕ → ℕ → ℕ → ℕ

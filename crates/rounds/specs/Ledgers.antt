@@ -2,7 +2,7 @@
 -- Assumes nothing.
 use Rattle.std.specs.Prelude.{Bool, cond, not, List, [], ◌∷◌, map, ℕ, ◌+◌, ◌-◌, eqb, length, take}
 use Rattle.std.proofs.Math.Option.{Option, none, some, get_or}
-use Rattle.lists.specs.Told.{Told, refusal, says}
+use Rattle.answers.specs.Answers.{Answer, refusal, result}
 use Rattle.lists.specs.Lists.{has, without, first_from}
 use Rattle.orders.specs.Orders.{P}
 use Rattle.orders.specs.Reservoirs.{due, in_and_out, n_after}
@@ -67,12 +67,12 @@ sheet x o = record { location = x; terminal = o }
 
 -- "Its plan: the first k of P(n) in order, each with its slot as defined above." From key, k, n and A alone. Demand 3: "It is
 -- refusal 11 exactly when none is active."
-unfoldable pub plan_from : ℕ → ℕ → ℕ → List ℕ → Told (List Sheet)
+unfoldable pub plan_from : ℕ → ℕ → ℕ → List ℕ → Answer (List Sheet)
 plan_from key k n A =
     cond (eqb (length A) 0) (refusal 11)
-    (says (map (λ x. sheet x (slot_of key x A)) (take k (P key n))))
+    (result (map (λ x. sheet x (slot_of key x A)) (take k (P key n))))
 
-abbrev pub ledger_plan : Ledger → Told (List Sheet)
+abbrev pub ledger_plan : Ledger → Answer (List Sheet)
 ledger_plan g = plan_from g.key g.k g.n g.A
 
 -- ---- fed with the calls

@@ -2,7 +2,7 @@
 -- Assumes nothing.
 use Rattle.std.specs.Prelude.{◌≡◌, ◌≢◌, Bool, false, cond, List, ℕ, ◌+◌, min, leb, ltb, length}
 use Rattle.std.proofs.Math.Option.{Option, none, some}
-use Rattle.lists.specs.Told.{Told, refusal, says}
+use Rattle.answers.specs.Answers.{Answer, refusal, result}
 use Rattle.lists.specs.Lists.{has}
 use Rattle.orders.specs.Reservoirs.{opening}
 use Rattle.choosers.specs.SlotCalls.{slot_limit}
@@ -19,21 +19,21 @@ too_short g places none = false
 too_short g places (some v) = ltb places (length (opening g.key g.k (v + 1)))
 
 -- of a list of so many places and a table of so many bytes
-unfoldable pub reply : Ledger → ℕ → ℕ → Call → Told (List ℕ)
-reply g places bytes admit = cond (too_short g places (due_in g)) (refusal 4) (says (answer g admit))
+unfoldable pub reply : Ledger → ℕ → ℕ → Call → Answer (List ℕ)
+reply g places bytes admit = cond (too_short g places (due_in g)) (refusal 4) (result (answer g admit))
 -- 9: "add with no deleted slot and the count at the table's length, or 65,536"
-reply g places bytes join = cond (leb (min bytes slot_limit) (free_slot g)) (refusal 9) (says (answer g join))
+reply g places bytes join = cond (leb (min bytes slot_limit) (free_slot g)) (refusal 9) (result (answer g join))
 -- 10: "remove of a slot not active"
-reply g places bytes (withdraw x) = cond (has x g.A) (says (answer g (withdraw x))) (refusal 10)
+reply g places bytes (withdraw x) = cond (has x g.A) (result (answer g (withdraw x))) (refusal 10)
 
 -- ---- the statement
 
 pub record Outcomes : Type 0 where
   -- Each call of a round reached says that, whatever else stands in its list and its table.
-  pub replied : (s : State) (h : Reached s) (x : Call) → (call s x).told ≡ reply (ledger_of h) (length s.list) (length s.table) x
+  pub replied : (s : State) (h : Reached s) (x : Call) → (call s x).answer ≡ reply (ledger_of h) (length s.list) (length s.table) x
   -- "A refusal returns its number and changes no lent list, table or record": of any round, reached or not.
   pub refused : (s t : State) (x : Call) (w : ℕ) → Made s x (refusal w) t → t ≡ s
   -- A round reached is never refused 12: no call of it,
-  pub never_12 : (s : State) → Reached s → (x : Call) → (call s x).told ≢ refusal 12
+  pub never_12 : (s : State) → Reached s → (x : Call) → (call s x).answer ≢ refusal 12
   -- and no plan, whatever it is lent.
-  pub plan_never_12 : (s : State) → Reached s → (ls ts : List ℕ) (places : ℕ) → (plan_call s ls ts places).told ≢ refusal 12
+  pub plan_never_12 : (s : State) → Reached s → (ls ts : List ℕ) (places : ℕ) → (plan_call s ls ts places).answer ≢ refusal 12

@@ -2,7 +2,7 @@
 -- Assumes nothing.
 use Rattle.std.specs.Prelude.{◌≡◌, cond, ◌||◌, List, [], ◌∷◌, map, ℕ, min, ltb, eqb, length, take, Result, Ok, Err}
 use Rattle.std.proofs.Math.Option.{some, get_or}
-use Rattle.lists.specs.Told.{Told, refusal, says, map_told}
+use Rattle.answers.specs.Answers.{Answer, refusal, result, map_answer}
 use Rattle.lists.specs.Lists.{written}
 use Rattle.answers.specs.declared.Refusal.{Refusal}
 use Rattle.orders.specs.ReservoirCalls as Reservoir
@@ -13,12 +13,12 @@ use Rattle.rounds.specs.Ledgers.{Sheet, sheet}
 
 -- what a plan says, and the two lists after it
 pub record AfterPlan : Type 0 where
-  pub told : Told (Unit {0})
+  pub answer : Answer (Unit {0})
   pub locations : List ℕ
   pub terminals : List ℕ
 
-abbrev pub after_plan : Told (Unit {0}) → List ℕ → List ℕ → AfterPlan
-after_plan w ls ts = record { told = w; locations = ls; terminals = ts }
+abbrev pub after_plan : Answer (Unit {0}) → List ℕ → List ℕ → AfterPlan
+after_plan w ls ts = record { answer = w; locations = ls; terminals = ts }
 
 -- "the sampled location"
 abbrev pub sampled : State → List ℕ
@@ -38,7 +38,7 @@ plan_call s ls ts places =
     cond (fitting s)
     (cond (ltb (length ls) k || ltb (length ts) k || ltb places (min (length s.table) Slots.slot_limit)) (after_plan (refusal 4) ls ts)
     (cond (eqb (length (actives s.table s.round.total)) 0) (after_plan (refusal 11) ls ts)
-    (after_plan (says tt) (written (sampled s) ls) (written (map (terminal_of s) (sampled s)) ts))))
+    (after_plan (result tt) (written (sampled s) ls) (written (map (terminal_of s) (sampled s)) ts))))
     (after_plan (refusal 12) ls ts)
 
 -- "the scratch is free after an accepted .. plan, unchanged after a refused one"; it keeps its length
@@ -55,5 +55,5 @@ sheets (x ∷ xs) [] = []
 sheets (x ∷ xs) (t ∷ ts) = sheet x (some t) ∷ sheets xs ts
 
 -- the first k places of the two lists, or the plan's refusal
-unfoldable pub shown_plan : ℕ → AfterPlan → Told (List Sheet)
-shown_plan k a = map_told (λ u. sheets (take k a.locations) (take k a.terminals)) a.told
+unfoldable pub shown_plan : ℕ → AfterPlan → Answer (List Sheet)
+shown_plan k a = map_answer (λ u. sheets (take k a.locations) (take k a.terminals)) a.answer

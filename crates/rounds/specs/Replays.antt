@@ -2,7 +2,7 @@
 -- and answers are written as numbers; what replay says and leaves; and what its answers are by the ledger alone.
 -- Assumes nothing.
 use Rattle.std.specs.Prelude.{◌≡◌, ◌≢◌, Bool, cond, ◌||◌, List, [], ◌∷◌, ◌++◌, map, ℕ, zero, suc, ◌+◌, ◌*◌, ◌^◌, ◌/◌, ◌%◌, ltb, eqb, length, get_or, take, drop, Result, Ok, Err}
-use Rattle.lists.specs.Told.{Told, refusal, says, map_told}
+use Rattle.answers.specs.Answers.{Answer, refusal, result, map_answer}
 use Rattle.lists.specs.Lists.{every, written}
 use Rattle.orders.specs.ReservoirCalls.{short_refusal}
 use Rattle.answers.specs.declared.Refusal.{Refusal}
@@ -25,35 +25,35 @@ call_of x = cond (eqb x 0) admit (cond (eqb x 1) join (withdraw (x % 2 ^ 32)))
 -- ---- answers as numbers
 
 -- four a call: the refusal's number or 0, how many values there are, and two places for them, 0 where there is none
-abbrev pub coded : Told (List ℕ) → List ℕ
+abbrev pub coded : Answer (List ℕ) → List ℕ
 coded (refusal w) = w ∷ 0 ∷ 0 ∷ 0 ∷ []
-coded (says vs) = 0 ∷ length vs ∷ get_or vs 0 0 ∷ get_or vs 1 0 ∷ []
+coded (result vs) = 0 ∷ length vs ∷ get_or vs 0 0 ∷ get_or vs 1 0 ∷ []
 
-abbrev pub coded_all : List (Told (List ℕ)) → List ℕ
+abbrev pub coded_all : List (Answer (List ℕ)) → List ℕ
 coded_all [] = []
 coded_all (a ∷ ws) = coded a ++ coded_all ws
 
 -- the answer that stands in the first four places,
-unfoldable pub read_one : List ℕ → Told (List ℕ)
-read_one l = cond (eqb (get_or l 0 0) 0) (says (take (get_or l 1 0) (get_or l 2 0 ∷ get_or l 3 0 ∷ []))) (refusal (get_or l 0 0))
+unfoldable pub read_one : List ℕ → Answer (List ℕ)
+read_one l = cond (eqb (get_or l 0 0) 0) (result (take (get_or l 1 0) (get_or l 2 0 ∷ get_or l 3 0 ∷ []))) (refusal (get_or l 0 0))
 
 -- and those of so many calls, one after the other
-unfoldable pub read_all : ℕ → List ℕ → List (Told (List ℕ))
+unfoldable pub read_all : ℕ → List ℕ → List (Answer (List ℕ))
 read_all zero l = []
 read_all (suc c) l = read_one l ∷ read_all c (drop 4 l)
 
 -- ---- what replay says and leaves
 
 pub record AfterReplay : Type 0 where
-  pub told : Told (Unit {0})
+  pub answer : Answer (Unit {0})
   pub list : List ℕ
   pub table : List ℕ
   pub answers : List ℕ
   pub locations : List ℕ
   pub terminals : List ℕ
 
-abbrev pub after_replay : Told (Unit {0}) → List ℕ → List ℕ → List ℕ → List ℕ → List ℕ → AfterReplay
-after_replay w l t ws ls ts = record { told = w; list = l; table = t; answers = ws; locations = ls; terminals = ts }
+abbrev pub after_replay : Answer (Unit {0}) → List ℕ → List ℕ → List ℕ → List ℕ → List ℕ → AfterReplay
+after_replay w l t ws ls ts = record { answer = w; list = l; table = t; answers = ws; locations = ls; terminals = ts }
 
 -- The calls, and the plan after them, on a round s: each call's answer, a refusal too, and then the plan's, over the first places
 -- of the answers' list.
@@ -61,12 +61,12 @@ unfoldable pub run_of : State → List Call → List ℕ → List ℕ → List �
 run_of s xs ws ls ts places =
     let end = after_all s xs in
     let p = plan_call end ls ts places in
-    after_replay (says tt) end.list end.table (written (coded_all (all_said s xs) ++ coded (map_told nothing_said p.told)) ws) p.locations p.terminals
+    after_replay (result tt) end.list end.table (written (coded_all (all_said s xs) ++ coded (map_answer nothing_said p.answer)) ws) p.locations p.terminals
 
 -- a refused open is replay's refusal and changes nothing
-abbrev pub opened_run : Told Round → List ℕ → List ℕ → List Call → List ℕ → List ℕ → List ℕ → ℕ → AfterReplay
+abbrev pub opened_run : Answer Round → List ℕ → List ℕ → List Call → List ℕ → List ℕ → List ℕ → ℕ → AfterReplay
 opened_run (refusal w) l t xs ws ls ts places = after_replay (refusal w) l t ws ls ts
-opened_run (says r) l t xs ws ls ts places = run_of (state r l t) xs ws ls ts places
+opened_run (result r) l t xs ws ls ts places = run_of (state r l t) xs ws ls ts places
 
 -- 12: a number that is no call. Then open's refusals, its 4 also for an answers' list with fewer than four places for each call and four
 -- for the plan. From then on it is not refused.
@@ -75,7 +75,7 @@ replay_call key k n codes l t ws ls ts places =
     let o = open_call key k n l in
     cond (every known codes)
     (cond (ltb (length ws) (4 * length codes + 4)) (after_replay (refusal (short_refusal k n)) l t ws ls ts)
-    (opened_run o.told o.list t (map call_of codes) ws ls ts places))
+    (opened_run o.answer o.list t (map call_of codes) ws ls ts places))
     (after_replay (refusal 12) l t ws ls ts)
 
 -- ---- the scratch
@@ -92,8 +92,8 @@ ReplayScratch (Ok u) c ws before now = ScratchRun c ws before now
 -- ---- demand 3 of what replay leaves, in the ledger's terms alone
 
 -- the plan as replay leaves it: its answer stands in place 4 · the number of calls
-unfoldable pub planned_in : ℕ → ℕ → List ℕ → List ℕ → List ℕ → Told (List Sheet)
-planned_in k c ws ls ts = shown_plan k (after_plan (map_told (λ vs. tt) (read_one (drop (4 * c) ws))) ls ts)
+unfoldable pub planned_in : ℕ → ℕ → List ℕ → List ℕ → List ℕ → Answer (List Sheet)
+planned_in k c ws ls ts = shown_plan k (after_plan (map_answer (λ vs. tt) (read_one (drop (4 * c) ws))) ls ts)
 
 -- Lent were a table of so many bytes, two lists and a scratch of so many places; after it stand the answers and the two lists:
 -- each answer that is no refusal is the ledger's, fed with which calls were refused; and so is the plan after them.

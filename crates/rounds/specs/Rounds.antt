@@ -3,7 +3,7 @@
 -- Assumes nothing.
 use Rattle.std.specs.Prelude.{Bool, cond, ◌&&◌, List, ℕ}
 use Rattle.std.proofs.Math.Option.{Option}
-use Rattle.lists.specs.Told.{Told, refusal, map_told}
+use Rattle.answers.specs.Answers.{Answer, refusal, map_answer}
 use Rattle.orders.specs.declared.consistent_reservoir.ConsistentReservoir.{ConsistentReservoir}
 use Rattle.orders.specs.ReservoirCalls as Reservoir
 use Rattle.choosers.specs.declared.node_map.ConsistentNodeMap.{ConsistentNodeMap}
@@ -38,27 +38,27 @@ fitting s = Reservoir.fitting (reservoir_of s.round) s.list && Slots.fitting (ma
 
 -- what an open says, and the list after it. There is a record only where it says one.
 pub record AfterOpen : Type 0 where
-  pub told : Told Round
+  pub answer : Answer Round
   pub list : List ℕ
 
-abbrev pub after_open : Told Round → List ℕ → AfterOpen
-after_open w l = record { told = w; list = l }
+abbrev pub after_open : Answer Round → List ℕ → AfterOpen
+after_open w l = record { answer = w; list = l }
 
 -- the reservoir's open; "An accepted open sets the slot count to 0 and writes no table byte."
 unfoldable pub open_call : ℕ → ℕ → ℕ → List ℕ → AfterOpen
 open_call key k n l =
     let o = Reservoir.open_call k n key l in
-    after_open (map_told (λ a. round_of a (Slots.map_of 0)) o.told) o.list
+    after_open (map_answer (λ a. round_of a (Slots.map_of 0)) o.answer) o.list
 
 -- ---- admit, join, withdraw
 
 -- what a call says, and the record, the list and the table after it
 pub record After (A : Type 0) : Type 0 where
-  pub told : Told A
+  pub answer : Answer A
   pub state : State
 
-abbrev pub after : {A : Type 0} → Told A → State → After A
-after w s = record { told = w; state = s }
+abbrev pub after : {A : Type 0} → Answer A → State → After A
+after w s = record { answer = w; state = s }
 
 -- a refusal changes nothing
 abbrev pub refused : {A : Type 0} → ℕ → State → After A
@@ -66,11 +66,11 @@ refused w s = after (refusal w) s
 
 -- the reservoir's call: the slot map and the table stay
 abbrev pub by_reservoir : {A : Type 0} → State → Reservoir.After A → After A
-by_reservoir s a = after a.told (state (round_of a.reservoir (map_of s.round)) a.list s.table)
+by_reservoir s a = after a.answer (state (round_of a.reservoir (map_of s.round)) a.list s.table)
 
 -- the slot map's call: the reservoir and the list stay
 abbrev pub by_slots : {A : Type 0} → State → Slots.After A → After A
-by_slots s a = after a.told (state (round_of (reservoir_of s.round) a.map) s.list a.table)
+by_slots s a = after a.answer (state (round_of (reservoir_of s.round) a.map) s.list a.table)
 
 unfoldable pub admit_call : State → After (Option (ℕ × ℕ))
 admit_call s = cond (fitting s) (by_reservoir s (Reservoir.admit_call (reservoir_of s.round) s.list)) (refused 12 s)

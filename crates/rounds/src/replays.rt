@@ -1,9 +1,10 @@
 // An open, a list of calls and a plan in one call: what demand 3 speaks of, as code that runs.
 ghost use Rattle.std.specs.Prelude.{◌≡◌, true, map, ◌+◌, ◌*◌, ◌≤◌, length};
-ghost use Rattle.lists.specs.Told.{says, map_told};
+ghost use Rattle.answers.specs.Answers.{map_answer};
+ghost use Rattle.answers.specs.Answers as Answers;
 ghost use Rattle.lists.specs.Lists.{every, written};
-ghost use Rattle.answers.specs.Refusals.{told};
-ghost use Rattle.orders.specs.ReservoirCalls.{told_exchange};
+ghost use Rattle.answers.specs.Refusals.{answer_of};
+ghost use Rattle.orders.specs.ReservoirCalls.{answer_of_exchange};
 ghost use Rattle.rounds.specs.Rounds.{state};
 ghost use Rattle.rounds.specs.Ledgers.{exchanged};
 ghost use Rattle.rounds.specs.Histories.{slot_said, nothing_said, after_all, all_said};
@@ -45,7 +46,7 @@ impl TryFrom<u64> for Call {
 // What a call says: the refusal's number or 0, how many values there are, and two places for them.
 // Four words, as C reads a replay's answers, and one function for each kind of answer.
 fn of_exchange(said: Result<Option<Exchange>, Refusal>) -> [u32; 4]
-    ensures { result ≡ coded (map_told exchanged (told_exchange said)) }
+    ensures { result ≡ coded (map_answer exchanged (answer_of_exchange said)) }
 {
     match said {
         Ok(Some(e)) => [0, 2, e.enters, e.leaves],
@@ -55,7 +56,7 @@ fn of_exchange(said: Result<Option<Exchange>, Refusal>) -> [u32; 4]
 }
 
 fn of_slot(said: Result<u32, Refusal>) -> [u32; 4]
-    ensures { result ≡ coded (map_told slot_said (told said)) }
+    ensures { result ≡ coded (map_answer slot_said (answer_of said)) }
 {
     match said {
         Ok(slot) => [0, 1, slot, 0],
@@ -64,7 +65,7 @@ fn of_slot(said: Result<u32, Refusal>) -> [u32; 4]
 }
 
 fn of_nothing(said: Result<(), Refusal>) -> [u32; 4]
-    ensures { result ≡ coded (map_told nothing_said (told said)) }
+    ensures { result ≡ coded (map_answer nothing_said (answer_of said)) }
 {
     match said {
         Ok(()) => [0; 4],
@@ -124,7 +125,7 @@ fn run(
 )
     requires room { 4 * length calls.now + 4 ≤ length answers.old }
     requires known { every known calls.now ≡ true }
-    ensures answer { after_replay (says tt) list.new table.new answers.new locations.new terminals.new ≡ run_of (state r list.old table.old) (map call_of calls.now) answers.old locations.old terminals.old (length scratch.old) }
+    ensures answer { after_replay (Answers.result tt) list.new table.new answers.new locations.new terminals.new ≡ run_of (state r list.old table.old) (map call_of calls.now) answers.old locations.old terminals.old (length scratch.old) }
     ensures scratch_run { ScratchRun (length calls.now) answers.new scratch.old scratch.new }
 {
     let mut round = r;
@@ -154,7 +155,7 @@ pub fn replay(
     terminals: &mut [u32],
     scratch: &mut [u64],
 ) -> Result<(), Refusal>
-    ensures answer { after_replay (told result) list.new table.new answers.new locations.new terminals.new ≡ replay_call key k n calls.now list.old table.old answers.old locations.old terminals.old (length scratch.old) }
+    ensures answer { after_replay (answer_of result) list.new table.new answers.new locations.new terminals.new ≡ replay_call key k n calls.now list.old table.old answers.old locations.old terminals.old (length scratch.old) }
     ensures replayed { Replayed result key k n calls.now (length table.old) (length scratch.old) answers.new locations.new terminals.new }
     ensures replay_scratch { ReplayScratch result (length calls.now) answers.new scratch.old scratch.new }
 {

@@ -2,8 +2,8 @@
 // The lists are lent one by one, as C lends them.
 ghost use Rattle.std.specs.Prelude.{◌≡◌, map, ◌≤◌, length};
 ghost use Rattle.lists.specs.Lists.{written};
-ghost use Rattle.answers.specs.Refusals.{told};
-ghost use Rattle.orders.specs.ReservoirCalls.{told_exchange, sample};
+ghost use Rattle.answers.specs.Refusals.{answer_of};
+ghost use Rattle.orders.specs.ReservoirCalls.{answer_of_exchange, sample};
 ghost use Rattle.rounds.specs.Rounds.{fitting, after_open, open_call, state, after, admit_call, join_call, withdraw_call, reservoir_of, map_of};
 ghost use Rattle.rounds.specs.Plans.{after_plan, plan_call, ScratchAfter};
 ghost use Rattle.rounds.specs.InnerRounds.{begun, with_reservoir, with_map, idle_of, dealt_to};
@@ -87,7 +87,7 @@ pub fn fits(r: Round, list: &[u32], table: &[u8]) -> bool
 
 // Open with k of n: refusals 1, 2, 3, 4.
 pub fn open(key: u64, k: u32, n: u32, list: &mut [u32]) -> Result<Round, Refusal>
-    ensures { after_open (told result) list.new ≡ open_call key k n list.old }
+    ensures { after_open (answer_of result) list.new ≡ open_call key k n list.old }
 {
     let a = ConsistentReservoir::new(k, n, key, list)?;
     Ok(begin(a))
@@ -99,7 +99,7 @@ pub fn admitted(
     list: &mut [u32],
     table: &[u8],
 ) -> (Round, Result<Option<Exchange>, Refusal>)
-    ensures { after (told_exchange result.1) (state result.0 list.new table.now) ≡ admit_call (state r list.old table.now) }
+    ensures { after (answer_of_exchange result.1) (state result.0 list.new table.now) ≡ admit_call (state r list.old table.now) }
 {
     if !map_of(r).fits(table) {
         return (r, Err(Refusal::Misfit));
@@ -111,7 +111,7 @@ pub fn admitted(
 
 // Join: refusals 12, 9.
 pub fn joined(r: Round, list: &[u32], table: &mut [u8]) -> (Round, Result<u32, Refusal>)
-    ensures { after (told result.1) (state result.0 list.now table.new) ≡ join_call (state r list.now table.old) }
+    ensures { after (answer_of result.1) (state result.0 list.now table.new) ≡ join_call (state r list.now table.old) }
 {
     if !reservoir_of(r).fits(list) {
         return (r, Err(Refusal::Misfit));
@@ -128,7 +128,7 @@ pub fn withdrawn(
     table: &mut [u8],
     slot: u32,
 ) -> (Round, Result<(), Refusal>)
-    ensures { after (told result.1) (state result.0 list.now table.new) ≡ withdraw_call (state r list.now table.old) slot }
+    ensures { after (answer_of result.1) (state result.0 list.now table.new) ≡ withdraw_call (state r list.now table.old) slot }
 {
     if !reservoir_of(r).fits(list) {
         return (r, Err(Refusal::Misfit));
@@ -142,7 +142,7 @@ pub fn withdrawn(
 
 // Whether no slot is active: refusal 12.
 fn is_idle(r: Round, list: &[u32], table: &[u8]) -> Result<bool, Refusal>
-    ensures { told result ≡ idle_of (state r list.now table.now) }
+    ensures { answer_of result ≡ idle_of (state r list.now table.now) }
 {
     if !reservoir_of(r).fits(list) {
         return Err(Refusal::Misfit);
@@ -188,7 +188,7 @@ pub fn plan(
     terminals: &mut [u32],
     scratch: &mut [u64],
 ) -> Result<(), Refusal>
-    ensures answer { after_plan (told result) locations.new terminals.new ≡ plan_call (state r list.now table.now) locations.old terminals.old (length scratch.old) }
+    ensures answer { after_plan (answer_of result) locations.new terminals.new ≡ plan_call (state r list.now table.now) locations.old terminals.old (length scratch.old) }
     ensures scratch_after { ScratchAfter result scratch.old scratch.new }
 {
     let idle = is_idle(r, list, table)?;

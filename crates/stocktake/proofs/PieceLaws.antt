@@ -46,24 +46,24 @@ module _ (w : World) (line : List ℕ) (m : ℕ) (out : List ℕ) (fits : Fits m
 
   pub feed_accepted : (piece : List ℕ) (why : Refusal) (s : Session) (w' : World) (line' out' : List ℕ)
       → after_call (Err why) s w' line' out' ≡ feed_call w line m piece out → ⊥
-  feed_accepted piece why s w' line' out' is = feed_not_refused w line m piece out fits (number why) (sym (ap (λ (a : AfterFeed). a.told) is))
+  feed_accepted piece why s w' line' out' is = feed_not_refused w line m piece out fits (number why) (sym (ap (λ (a : AfterFeed). a.answer) is))
 
   pub finish_accepted : (why : Refusal) (s : Session) (w' : World) (line' out' : List ℕ)
       → after_call (Err why) s w' line' out' ≡ end_call w line m out → ⊥
-  finish_accepted why s w' line' out' is = finish_not_refused w line m out fits (number why) (sym (ap (λ (a : AfterFeed). a.told) is))
+  finish_accepted why s w' line' out' is = finish_not_refused w line m out fits (number why) (sym (ap (λ (a : AfterFeed). a.answer) is))
 
   module _ (f : Fed) (s : Session) (w' : World) (line' out' : List ℕ) where
     pub feed_took : (piece : List ℕ) → after_call (Ok f) s w' line' out' ≡ feed_call w line m piece out
         → (f.taken ≤ length piece) × (0 < length piece → 0 < f.taken)
     feed_took piece is =
-        let done = feed_feeds w line m piece out f.taken f.put (sym (ap (λ (a : AfterFeed). a.told) is)) in
+        let done = feed_feeds w line m piece out f.taken f.put (sym (ap (λ (a : AfterFeed). a.answer) is)) in
         (done.inside, done.some)
 
     module _ (kept : length line' ≡ length line) (same : length w'.locations ≡ length w.locations) (long : length out' ≡ length out) where
       pub feed_stepped : (piece : List ℕ) → 0 < length piece → after_call (Ok f) s w' line' out' ≡ feed_call w line m piece out
           → Stepped start (take f.taken piece) s.held line' w' out' f.put
       feed_stepped piece p is =
-          let done = feed_feeds w line m piece out f.taken f.put (sym (ap (λ (a : AfterFeed). a.told) is)) in
+          let done = feed_feeds w line m piece out f.taken f.put (sym (ap (λ (a : AfterFeed). a.answer) is)) in
           let t = take f.taken piece in
           let n : length t ≡ f.taken = length-take-le f.taken piece done.inside in
           let all : fed start t ≡ taken_in start t = sym (taken_some start t (omega (arith, n, done.some p))) in
@@ -84,7 +84,7 @@ module _ (w : World) (line : List ℕ) (m : ℕ) (out : List ℕ) (fits : Fits m
 
       pub finish_stepped : after_call (Ok f) s w' line' out' ≡ end_call w line m out → Stepped start [] s.held line' w' out' f.put
       finish_stepped is =
-          let done = finish_ends w line m out f.taken f.put (sym (ap (λ (a : AfterFeed). a.told) is)) in
+          let done = finish_ends w line m out f.taken f.put (sym (ap (λ (a : AfterFeed). a.answer) is)) in
           let o : out' ≡ (end_call w line m out).out = ap (λ (a : AfterFeed). a.out) is in
           let none : take s.held line' ≡ [] = ap (λ (a : AfterFeed). a.held) is ∙ done.held_is in
           record {

@@ -1,17 +1,17 @@
 -- `exports::perillajamb_layer_xors` meets its contract.
 -- Assumes nothing.
 use Rattle.std.proofs.Common.{sym, ap, ◌∙◌, arith}
-use Rattle.answers.specs.Refusals.{told}
+use Rattle.answers.specs.Refusals.{answer_of}
 use Rattle.exports.proofs.XorLaws.{made, too_many, not_made}
 use Rattle.exports.proofs.perillajamb_layer_xors.Goals as goal
 
 pub returns-in-Ok : goal.returns-in-Ok
 returns-in-Ok c =
-    made _ _ _ _ _ (sym c.new.ensures ∙ ap told c.in-Ok.is) (omega arith) (c.xor_outputs.ensures _ _)
+    made _ _ _ _ _ (sym c.new.ensures ∙ ap answer_of c.in-Ok.is) (omega arith) (c.xor_outputs.ensures _ _)
 
 pub returns-in-Ok-2 : goal.returns-in-Ok-2
 returns-in-Ok-2 c =
-    c.coded_output.ensures ∙ too_many _ _ _ _ (sym c.new.ensures ∙ ap told c.in-Ok.is) (omega arith)
+    c.coded_output.ensures ∙ too_many _ _ _ _ (sym c.new.ensures ∙ ap answer_of c.in-Ok.is) (omega arith)
 
 pub returns-in-Err : goal.returns-in-Err
-returns-in-Err c = c.coded_output-in-Err.ensures ∙ not_made _ _ _ _ (sym c.new.ensures ∙ ap told c.in-Err.is)
+returns-in-Err c = c.coded_output-in-Err.ensures ∙ not_made _ _ _ _ (sym c.new.ensures ∙ ap answer_of c.in-Err.is)

@@ -1,7 +1,7 @@
 -- `exports::perillajamb_rising_next` meets its contract.
 -- Assumes nothing.
 use Rattle.std.proofs.Common.{ap, ◌∙◌}
-use Rattle.lists.specs.Steps.{Step}
+use Rattle.answers.specs.Steps.{Step}
 use Rattle.hashes.specs.declared.ConsistentHashIterator.{ConsistentHashIterator}
 use Rattle.exports.specs.Coded.{coded_hash}
 use Rattle.exports.proofs.perillajamb_rising_next.Goals as goal

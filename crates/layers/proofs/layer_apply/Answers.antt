@@ -2,7 +2,7 @@
 -- Assumes nothing.
 use Rattle.std.proofs.Common.{◌≡◌, ◌<◌, ◌≤◌, ap, arith, le-ltb, lt-ltb, le-leb}
 use borrow.Author.Tests.{lt-leb}
-use Rattle.lists.specs.Told.{says}
+use Rattle.answers.specs.Answers.{result}
 use Rattle.layers.specs.Layer.{size, layer}
 use Rattle.layers.specs.Calls.{layer_apply}
 use Rattle.layers.proofs.FormulaLaws.{half}
@@ -28,4 +28,4 @@ returns c =
     let a = c.args in
     let q : a.x < size a.layer = omega (arith, c.size.ensures) in
     let e : c.network.result ≡ layer a.layer a.key a.x = rw (c.network.ensures, c.new-half.ensures, c.rounds.ensures, c.bits.ensures, half a.layer) in
-    simp (le-leb a.layer 14 (omega arith), lt-ltb _ _ q) (ap says e)
+    simp (le-leb a.layer 14 (omega arith), lt-ltb _ _ q) (ap result e)

@@ -1,7 +1,7 @@
 -- `choosers::samples::get_sample` meets its contract.
 -- Assumes nothing.
 use Rattle.std.proofs.Common.{◌≡◌, ◌+◌, ◌-◌, Ok, Some, is_ok, is_some, ap, ◌∙◌, ℕ, arith, rules}
-use Rattle.answers.proofs.Tolds.{told_some}
+use Rattle.answers.proofs.BackLaws.{answer_some}
 use Rattle.hashes.specs.Hashes.{feed}
 use Rattle.hashes.specs.Calls.{prev_number, prev_call}
 use Rattle.choosers.specs.Choosers.{g}
@@ -15,7 +15,7 @@ drew : (c : After-prev) → c.prev.result ≡ Ok (Some (prev_number (feed c.args
 drew c =
     let a = c.args in
     let e = ap (λ (s : ℕ). prev_call s (a.n - a.i)) (ap (λ h. h.state) c.new-hasher.ensures ∙ c.seq_builder.ensures) in
-    told_some _ _ (c.prev.ensures ∙ e ∙ there a.state a.i a.n (search rules) (search rules))
+    answer_some _ _ (c.prev.ensures ∙ e ∙ there a.state a.i a.n (search rules) (search rules))
 
 pub unwrap-requires : goal.unwrap-requires
 unwrap-requires c = ap is_ok (drew (goal.at.unwrap-requires c).After-prev)

@@ -1,7 +1,7 @@
 -- `exports::chooser::perillajamb_chooser_grow_k` meets its contract.
 -- Assumes nothing.
 use Rattle.std.proofs.Common.{◌∙◌, lt-ltb, rules}
-use Rattle.answers.specs.Refusals.{told}
+use Rattle.answers.specs.Refusals.{answer_of}
 use Rattle.choosers.specs.ChooserCalls.{after, grow_call}
 use Rattle.exports.specs.Coded.{coded_number}
 use Rattle.exports.specs.Chooser.{grow_crossed}
@@ -18,4 +18,4 @@ unfolding grow_crossed
 returns c =
     let said = c.grow_k-said in
     let words = rw c.is_ok.ensures.value at c.keep.ensures in
-    crosses _ (search rules) _ _ coded_number grow_call _ _ (after (told said.result) _ _) c.loaded-c.ensures said.ensures.answer (both c.wide_number.ensures (words ∙ kept _ _ said.result))
+    crosses _ (search rules) _ _ coded_number grow_call _ _ (after (answer_of said.result) _ _) c.loaded-c.ensures said.ensures.answer (both c.wide_number.ensures (words ∙ kept _ _ said.result))

@@ -3,7 +3,7 @@
 use mathlib.Core.Path.{◌∙◌}
 use borrow.Author.Tests.{lt-ltb}
 use borrow.Author.Rules.{rules}
-use Rattle.answers.specs.Refusals.{told}
+use Rattle.answers.specs.Refusals.{answer_of}
 use Rattle.exports.specs.Chooser.{new_crossed}
 use Rattle.exports.proofs.ChooserCrossLaws.{made_words, new_crosses}
 use Rattle.exports.proofs.KeptLaws.{both}
@@ -15,4 +15,4 @@ returns-then-words-lt3 c = rw (c.refused.ensures, c.short_of.ensures, lt-ltb _ 3
 
 pub returns : goal.returns
 returns c =
-    new_crosses _ (search rules) _ _ _ _ c.new.result c.new.ensures (both c.store_made.ensures.answer (c.store_made.ensures.made ∙ made_words c.args.words.now (told c.new.result)))
+    new_crosses _ (search rules) _ _ _ _ c.new.result c.new.ensures (both c.store_made.ensures.answer (c.store_made.ensures.made ∙ made_words c.args.words.now (answer_of c.new.result)))

@@ -1,7 +1,7 @@
 -- `exports::chooser::perillajamb_chooser_shrink_n` meets its contract.
 -- Assumes nothing.
 use Rattle.std.proofs.Common.{◌∙◌, lt-ltb, rules}
-use Rattle.answers.specs.Refusals.{told}
+use Rattle.answers.specs.Refusals.{answer_of}
 use Rattle.choosers.specs.ChooserCalls.{after, shrink_call}
 use Rattle.exports.specs.Coded.{coded_number}
 use Rattle.exports.specs.Chooser.{shrink_crossed}
@@ -18,4 +18,4 @@ unfolding shrink_crossed
 returns c =
     let said = c.shrink_n-said in
     let words = rw c.is_ok.ensures.value at c.keep.ensures in
-    crosses _ (search rules) _ _ coded_number shrink_call _ _ (after (told said.result) _ _) c.loaded-c.ensures said.ensures.answer (both c.wide_number.ensures (words ∙ kept _ _ said.result))
+    crosses _ (search rules) _ _ coded_number shrink_call _ _ (after (answer_of said.result) _ _) c.loaded-c.ensures said.ensures.answer (both c.wide_number.ensures (words ∙ kept _ _ said.result))

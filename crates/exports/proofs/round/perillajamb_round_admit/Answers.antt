@@ -1,7 +1,7 @@
 -- `exports::round::perillajamb_round_admit` meets its contract.
 -- Assumes nothing.
 use Rattle.std.proofs.Common.{◌∙◌, lt-ltb, rules}
-use Rattle.orders.specs.ReservoirCalls.{told_exchange}
+use Rattle.orders.specs.ReservoirCalls.{answer_of_exchange}
 use Rattle.rounds.specs.Rounds.{state, after, admit_call}
 use Rattle.exports.specs.Reservoirs.{coded_exchange}
 use Rattle.exports.specs.Rounds.{admit_crossed}
@@ -18,4 +18,4 @@ unfolding admit_crossed
 returns c =
     let said = c.admit-said in
     let words = rw c.is_ok.ensures.value at c.keep.ensures in
-    crosses _ (search rules) _ _ coded_exchange admit_call _ _ _ (after (told_exchange said.result) (state said.new.self _ _)) c.loaded-r.ensures said.ensures (both c.exchange.ensures (words ∙ kept_exchange _ _ said.result))
+    crosses _ (search rules) _ _ coded_exchange admit_call _ _ _ (after (answer_of_exchange said.result) (state said.new.self _ _)) c.loaded-r.ensures said.ensures (both c.exchange.ensures (words ∙ kept_exchange _ _ said.result))

@@ -1,7 +1,7 @@
 -- `exports::round::perillajamb_round_join` meets its contract.
 -- Assumes nothing.
 use Rattle.std.proofs.Common.{◌∙◌, lt-ltb, rules}
-use Rattle.answers.specs.Refusals.{told}
+use Rattle.answers.specs.Refusals.{answer_of}
 use Rattle.rounds.specs.Rounds.{state, after, join_call}
 use Rattle.exports.specs.Coded.{coded_number}
 use Rattle.exports.specs.Rounds.{join_crossed}
@@ -18,4 +18,4 @@ unfolding join_crossed
 returns c =
     let said = c.join-said in
     let words = rw c.is_ok.ensures.value at c.keep.ensures in
-    crosses _ (search rules) _ _ coded_number join_call _ _ _ (after (told said.result) (state said.new.self _ _)) c.loaded-r.ensures said.ensures (both c.number.ensures.value (words ∙ kept _ _ said.result))
+    crosses _ (search rules) _ _ coded_number join_call _ _ _ (after (answer_of said.result) (state said.new.self _ _)) c.loaded-r.ensures said.ensures (both c.number.ensures.value (words ∙ kept _ _ said.result))

@@ -1,7 +1,7 @@
 -- `exports::round::perillajamb_round_open` meets its contract.
 -- Assumes nothing.
 use Rattle.std.proofs.Common.{◌∙◌, lt-ltb, rules}
-use Rattle.answers.specs.Refusals.{told}
+use Rattle.answers.specs.Refusals.{answer_of}
 use Rattle.exports.specs.Rounds.{open_crossed}
 use Rattle.exports.proofs.RoundCrossLaws.{open_crosses, opened_words}
 use Rattle.exports.proofs.KeptLaws.{both}
@@ -14,4 +14,4 @@ returns-then-words-lt7 c = rw (c.refused.ensures, c.short_refusal.ensures, lt-lt
 pub returns : goal.returns
 returns c =
     let made = c.store_made.ensures in
-    open_crosses _ (search rules) _ _ _ _ _ _ _ c.«open».result c.«open».ensures (both made.answer (made.made ∙ opened_words c.args.words.now (told c.«open».result)))
+    open_crosses _ (search rules) _ _ _ _ _ _ _ c.«open».result c.«open».ensures (both made.answer (made.made ∙ opened_words c.args.words.now (answer_of c.«open».result)))

@@ -1,7 +1,7 @@
 -- `exports::round::perillajamb_round_withdraw` meets its contract.
 -- Assumes nothing.
 use Rattle.std.proofs.Common.{◌∙◌, lt-ltb, rules}
-use Rattle.answers.specs.Refusals.{told}
+use Rattle.answers.specs.Refusals.{answer_of}
 use Rattle.rounds.specs.Rounds.{State, state, after, withdraw_call}
 use Rattle.exports.specs.Coded.{coded_done}
 use Rattle.exports.specs.Rounds.{withdraw_crossed}
@@ -18,4 +18,4 @@ unfolding withdraw_crossed
 returns c =
     let said = c.withdraw-said in
     let words = rw c.is_ok.ensures.value at c.keep.ensures in
-    crosses _ (search rules) _ _ coded_done (λ (z : State). withdraw_call z c.args.slot) _ _ _ (after (told said.result) (state said.new.self _ _)) c.loaded-r.ensures said.ensures (both c.done.ensures (words ∙ kept _ _ said.result))
+    crosses _ (search rules) _ _ coded_done (λ (z : State). withdraw_call z c.args.slot) _ _ _ (after (answer_of said.result) (state said.new.self _ _)) c.loaded-r.ensures said.ensures (both c.done.ensures (words ∙ kept _ _ said.result))

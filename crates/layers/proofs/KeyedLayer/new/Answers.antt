@@ -2,7 +2,7 @@
 -- Assumes nothing.
 use Rattle.std.proofs.Common.{ap, arith, le-leb}
 use borrow.Author.Tests.{lt-leb}
-use Rattle.lists.specs.Told.{says}
+use Rattle.answers.specs.Answers.{result}
 use Rattle.layers.specs.KeyedLayers.{keyed}
 use Rattle.layers.proofs.KeyedLayer.new.Goals as goal
 
@@ -12,4 +12,4 @@ returns-then-layer-gt-LAYER_LIMIT c = simp (lt-leb c.args.layer 14 (omega arith)
 
 pub returns : goal.returns
 unfolding keyed
-returns c = simp (le-leb c.args.layer 14 (omega arith)) (ap says c.keyed_of.ensures)
+returns c = simp (le-leb c.args.layer 14 (omega arith)) (ap result c.keyed_of.ensures)

@@ -1,7 +1,7 @@
 -- `lines::calls::admit` meets its contract.
 -- Assumes nothing.
 use Rattle.std.proofs.lemmas.Result.{err_from_is_err_and}
-use Rattle.lines.proofs.LineLaws.{none_had, lent_is, admit_none, admit_on, exchange_told}
+use Rattle.lines.proofs.LineLaws.{none_had, lent_is, admit_none, admit_on, exchange_answer}
 use Rattle.lines.proofs.calls.admit.Goals as goal
 
 pub returns-in_err-round : goal.returns-in_err-round
@@ -16,4 +16,4 @@ returns-in_err-exchange c = λ ls ts.
     rw (p.1, p.2) (admit_on _ _ _ _ _ (lent_is _ _ _ c.as_mut.ensures.value c.in_ok-round.ensures.ok_part) _ _ c.in_err-exchange.ensures)
 
 pub returns : goal.returns
-returns c = λ ls ts. rw (exchange_told c.in_ok-exchange.exchange) (admit_on _ _ _ _ _ (lent_is _ _ _ c.as_mut.ensures.value c.in_ok-round.ensures.ok_part) _ _ c.in_ok-exchange.ensures)
+returns c = λ ls ts. rw (exchange_answer c.in_ok-exchange.exchange) (admit_on _ _ _ _ _ (lent_is _ _ _ c.as_mut.ensures.value c.in_ok-round.ensures.ok_part) _ _ c.in_ok-exchange.ensures)

@@ -4,7 +4,7 @@ use Rattle.std.proofs.Common.{ap, ◌∙◌, rules, tests}
 use borrow.Author.Tests.{lt-leb}
 use lib.Dec.{eqb}
 use Rattle.lines.specs.Commands.{command_of}
-use Rattle.lines.specs.InnerLines.{told_form}
+use Rattle.lines.specs.InnerLines.{answer_of_form}
 use Rattle.lines.proofs.FieldLaws.{split_start, past_more, past_ends, past_is, past_not, command_split, command_many}
 use Rattle.lines.proofs.commands.form.Goals as goal
 
@@ -34,7 +34,7 @@ returns-in_err-c c =
     let p1 = past_more p0 c.in_ok-word.word c.next.new.self c.in_ok-word.ensures.steps in
     let p2 = past_more p1 c.in-Some.a c.next-2.new.self c.in-Some.ensures.steps in
     let p3 = past_more p2 c.in-Some-next.b c.next-3.new.self c.in-Some-next.ensures.steps in
-    ap told_form c.from_residual-in_err-c.ensures ∙ command_split _ _ c.if-line-gt80.false (past_ends p3 c.next-4.new.self c.in_err-c.ensures.steps)
+    ap answer_of_form c.from_residual-in_err-c.ensures ∙ command_split _ _ c.if-line-gt80.false (past_ends p3 c.next-4.new.self c.in_err-c.ensures.steps)
 
 pub returns-then-is_some : goal.returns-then-is_some
 returns-then-is_some c =

@@ -13,9 +13,9 @@ use Rattle.lines.proofs.commands.value.Goals.{In_ok-digit}
 -- the byte is a digit of the base
 is_digit : (c : In_ok-digit) → (c.in_ok-digit.digit < c.args.base) × (c.in_ok-digit.digit ≡ digit_of (get_or c.args.digits.now c.loop-byte.byte-index 0))
 is_digit c =
-    let told = c.in_ok-digit.ensures.value in
-    let same = digit_within c.from.result c.args.base c.requires.base_bound.1 told.0 in
-    (omega (arith, told), told.1 ∙ sym same ∙ ap digit_of c.from.ensures)
+    let answer = c.in_ok-digit.ensures.value in
+    let same = digit_within c.from.result c.args.base c.requires.base_bound.1 answer.0 in
+    (omega (arith, answer), answer.1 ∙ sym same ∙ ap digit_of c.from.ensures)
 
 -- so the sum with it fits a word
 fits_word : (c : In_ok-digit) → c.loop-byte.value * c.args.base + c.in_ok-digit.digit < 2 ^ 64

@@ -3,7 +3,7 @@
 use mathlib.Core.Path.{ap, ◌∙◌}
 use mathlib.Core.Bool.{not}
 use Rattle.lines.specs.Commands.{word_and_one, withdraw_word}
-use Rattle.lines.specs.InnerLines.{told_form}
+use Rattle.lines.specs.InnerLines.{answer_of_form}
 use Rattle.lines.proofs.CommandLaws.{alike_ne}
 use Rattle.lines.proofs.commands.with_one.Goals as goal
 
@@ -14,7 +14,7 @@ returns-then-ne c = rw (alike_ne c.args.word.now _ withdraw_word _ c.ne.ensures 
 pub returns-in_err-slot : goal.returns-in_err-slot
 unfolding word_and_one
 returns-in_err-slot c =
-    rw (alike_ne c.args.word.now _ withdraw_word _ c.ne.ensures c.as_slice.ensures ∙ ap not c.if-ne.false, ← c.in_err-slot.ensures) (ap told_form c.from_residual.ensures)
+    rw (alike_ne c.args.word.now _ withdraw_word _ c.ne.ensures c.as_slice.ensures ∙ ap not c.if-ne.false, ← c.in_err-slot.ensures) (ap answer_of_form c.from_residual.ensures)
 
 pub returns : goal.returns
 unfolding word_and_one

@@ -4,7 +4,7 @@ use mathlib.Core.Path.{◌≡◌, ap, ◌∙◌}
 use mathlib.Core.Bool.{not, true}
 use Rattle.lines.specs.Lines.{alike}
 use Rattle.lines.specs.Commands.{word_and_three, open_word}
-use Rattle.lines.specs.InnerLines.{told_form}
+use Rattle.lines.specs.InnerLines.{answer_of_form}
 use Rattle.lines.proofs.CommandLaws.{alike_ne}
 use Rattle.lines.proofs.commands.with_three.Goals as goal
 use Rattle.lines.proofs.commands.with_three.Goals.{Else-ne}
@@ -19,15 +19,15 @@ is_open c = alike_ne c.args.word.now _ open_word _ c.ne.ensures c.as_slice.ensur
 
 pub returns-in_err-key : goal.returns-in_err-key
 unfolding word_and_three
-returns-in_err-key c = rw (is_open (goal.at.returns-in_err-key c).Else-ne, ← c.in_err-key.ensures) (ap told_form c.from_residual.ensures)
+returns-in_err-key c = rw (is_open (goal.at.returns-in_err-key c).Else-ne, ← c.in_err-key.ensures) (ap answer_of_form c.from_residual.ensures)
 
 pub returns-in_err-k : goal.returns-in_err-k
 unfolding word_and_three
-returns-in_err-k c = rw (is_open (goal.at.returns-in_err-k c).Else-ne, ← c.in_ok-key.ensures, ← c.in_err-k.ensures) (ap told_form c.from_residual-in_err-k.ensures)
+returns-in_err-k c = rw (is_open (goal.at.returns-in_err-k c).Else-ne, ← c.in_ok-key.ensures, ← c.in_err-k.ensures) (ap answer_of_form c.from_residual-in_err-k.ensures)
 
 pub returns-in_err-n : goal.returns-in_err-n
 unfolding word_and_three
-returns-in_err-n c = rw (is_open (goal.at.returns-in_err-n c).Else-ne, ← c.in_ok-key.ensures, ← c.in_ok-k.ensures, ← c.in_err-n.ensures) (ap told_form c.from_residual-in_err-n.ensures)
+returns-in_err-n c = rw (is_open (goal.at.returns-in_err-n c).Else-ne, ← c.in_ok-key.ensures, ← c.in_ok-k.ensures, ← c.in_err-n.ensures) (ap answer_of_form c.from_residual-in_err-n.ensures)
 
 pub returns : goal.returns
 unfolding word_and_three

@@ -7,7 +7,7 @@ use Prim.Native.Nat.{◌≤◌, min}
 use native.Mathlib.Omega.{arith}
 use lib.Dec.{eqb}
 use lib.ListN.{length}
-use Rattle.answers.specs.Refusals.{told}
+use Rattle.answers.specs.Refusals.{answer_of}
 use Rattle.choosers.specs.Slots.{actives}
 use Rattle.choosers.specs.SlotCalls.{slot_limit, fitting}
 use Rattle.choosers.proofs.TableLaws.{some_active}
@@ -52,7 +52,7 @@ pub returns : goal.returns
 returns c =
     let a = (goal.at.returns c).After-any in
     record {
-      answer = ap told c.ok_or.ensures.value ∙ get_looked _ _ _ _ (fit a) (enough a) _ c.first_active.ensures.answer;
+      answer = ap answer_of c.ok_or.ensures.value ∙ get_looked _ _ _ _ (fit a) (enough a) _ c.first_active.ensures.answer;
       -- one is active, so it is found
       scratch_after = scratch_looked _ _ _ _ (fit a) (enough a) (sym c.if-not-any.false ∙ one a) _ c.first_active.ensures.answer _ c.ok_or.ensures.value _ _ c.first_active.ensures.scratch;
     }

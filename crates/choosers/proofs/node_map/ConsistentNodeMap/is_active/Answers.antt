@@ -3,7 +3,7 @@
 use Rattle.std.proofs.lemmas.Result.{err_from_is_err_and}
 use mathlib.Core.Path.{◌≡◌, refl, sym, ap, ◌∙◌}
 use native.Mathlib.Omega.{arith}
-use Rattle.lists.specs.Told.{says}
+use Rattle.answers.specs.Answers.{result}
 use Rattle.choosers.specs.Slots.{active}
 use Rattle.choosers.proofs.TableLaws.{reads_one, slot_active}
 use Rattle.choosers.proofs.SlotCallLaws.{small_parts, query_unfit, query_fit}
@@ -21,4 +21,4 @@ returns c =
     let read = c.get.ensures.lookup.4 (omega arith) 0 in
     let one : c.eq.result ≡ active c.args.table.now c.args.self.total c.args.slot
     = c.eq.ensures ∙ reads_one c.get.result _ _ refl read ∙ sym (slot_active _ _ _ u.bytes (small_parts _ _ (sym u.fits)).0 c.args.slot) in
-    ap says one ∙ sym (query_fit _ _ _ (sym u.fits))
+    ap result one ∙ sym (query_fit _ _ _ (sym u.fits))

@@ -3,7 +3,7 @@
 use Rattle.std.proofs.lemmas.Result.{err_from_is_err_and}
 use mathlib.Core.Path.{sym, ap, ◌∙◌}
 use mathlib.Core.Bool.{Bool, not, not-not}
-use Rattle.lists.specs.Told.{says}
+use Rattle.answers.specs.Answers.{result}
 use Rattle.choosers.proofs.TableLaws.{some_active}
 use Rattle.choosers.proofs.SlotCallLaws.{small_parts, query_unfit, query_fit}
 use Rattle.choosers.proofs.node_map.ConsistentNodeMap.is_empty.Goals as goal
@@ -17,5 +17,5 @@ returns-in_err-slots c =
 pub returns : goal.returns
 returns c =
     let u = c.in_ok-slots.ensures in
-    ap (λ (b : Bool). says (not b)) (some_active _ _ _ u.bytes (small_parts _ _ (sym u.fits)).0 _ c.any.ensures)
-    ∙ ap says (not-not _) ∙ sym (query_fit _ _ _ (sym u.fits))
+    ap (λ (b : Bool). result (not b)) (some_active _ _ _ u.bytes (small_parts _ _ (sym u.fits)).0 _ c.any.ensures)
+    ∙ ap result (not-not _) ∙ sym (query_fit _ _ _ (sym u.fits))

@@ -5,7 +5,7 @@ use mathlib.Core.Path.{sym, ap, ◌∙◌}
 use native.Mathlib.Omega.{arith}
 use lib.ListN.{length}
 use lib.Seq.{length-take-le}
-use Rattle.lists.specs.Told.{says}
+use Rattle.answers.specs.Answers.{result}
 use Rattle.lists.specs.Lists.{every}
 use Rattle.choosers.specs.SlotCalls.{at_most_one}
 use Rattle.choosers.proofs.TableLaws.{actives_front}
@@ -30,4 +30,4 @@ sum-requires c =
 pub returns : goal.returns
 returns c =
     let u = c.in_ok-slots.ensures in
-    ap says (c.sum.ensures ∙ ap length (actives_front _ _ _ u.bytes (small_parts _ _ (sym u.fits)).0)) ∙ sym (query_fit _ _ _ (sym u.fits))
+    ap result (c.sum.ensures ∙ ap length (actives_front _ _ _ u.bytes (small_parts _ _ (sym u.fits)).0)) ∙ sym (query_fit _ _ _ (sym u.fits))

@@ -4,10 +4,10 @@ use mathlib.Core.Path.{◌≡◌, sym, ap, ◌∙◌}
 use native.Mathlib.Omega.{arith}
 use borrow.Author.Rules.{rules}
 use Rattle.std.proofs.Common.{length}
-use Rattle.lists.specs.Steps.{Step}
+use Rattle.answers.specs.Steps.{Step}
 use Rattle.orders.specs.declared.consistent_permutation.ConsistentPermutation.{ConsistentPermutation}
 use Rattle.orders.specs.Orders.{layer_of}
-use Rattle.answers.specs.Refusals.{told_option}
+use Rattle.answers.specs.Refusals.{answer_of_option}
 use Rattle.orders.specs.OrderCalls.{step, next_call}
 use Rattle.orders.proofs.NextLaws.{next_empty, next_first}
 use Rattle.orders.proofs.FitLaws.{Keeps, next_keeps}
@@ -15,7 +15,7 @@ use Rattle.orders.proofs.order_walk.OrderWalk.next.Goals as goal
 use Rattle.orders.proofs.order_walk.OrderWalk.next.Goals.{After-first}
 
 -- a call of `next` on the order that is walked
-called : (c : After-first) → step (told_option c.first.result) c.first.new.self ≡ next_call c.args.self.now.order
+called : (c : After-first) → step (answer_of_option c.first.result) c.first.new.self ≡ next_call c.args.self.now.order
 called c =
     let w = c.args.self.now in
     c.first.ensures ∙ sym (next_first w.order _ w.fit w.limit c.if-self-eq0.false w.layer)

@@ -1,7 +1,7 @@
 -- `orders::outputs::Outputs::new` meets its contract.
 -- Assumes nothing.
 use Rattle.std.proofs.Common.{◌≡◌, Ok, ◌∙◌, ap, arith, is_ok}
-use Rattle.answers.proofs.Tolds.{told_ok}
+use Rattle.answers.proofs.BackLaws.{answer_ok}
 use Rattle.layers.specs.KeyedLayers.{keyed_layer}
 use Rattle.layers.proofs.CallLaws.{keyed_in}
 use Rattle.orders.proofs.outputs.Outputs.new.Goals as goal
@@ -10,7 +10,7 @@ use Rattle.orders.proofs.outputs.Outputs.new.Goals.{After-new}
 made : (c : After-new) → c.new.result ≡ Ok (keyed_layer c.args.layer.number c.args.key)
 made c =
     let j = c.args.layer in
-    told_ok _ _ (c.new.ensures ∙ keyed_in j.number c.args.key (omega (arith, j.below)))
+    answer_ok _ _ (c.new.ensures ∙ keyed_in j.number c.args.key (omega (arith, j.below)))
 
 pub unwrap-keyed-requires : goal.unwrap-keyed-requires
 unwrap-keyed-requires c = ap is_ok (made (goal.at.unwrap-keyed-requires c).After-new)

@@ -4,16 +4,16 @@
 use Rattle.std.specs.Prelude.{Bool, true, false, ℕ}
 
 -- one of the numbered refusals, or what a call that is not refused answers
-pub data Told (A : Type 0) : Type 0 where
-  refusal : ℕ → Told A
-  says : A → Told A
+pub data Answer (A : Type 0) : Type 0 where
+  refusal : ℕ → Answer A
+  result : A → Answer A
 
 -- the same refusal, or f of what is said
-abbrev pub map_told : {A B : Type 0} → (A → B) → Told A → Told B
-map_told f (refusal w) = refusal w
-map_told f (says x) = says (f x)
+abbrev pub map_answer : {A B : Type 0} → (A → B) → Answer A → Answer B
+map_answer f (refusal w) = refusal w
+map_answer f (result x) = result (f x)
 
 -- whether it is a refusal
-abbrev pub is_refusal : {A : Type 0} → Told A → Bool
+abbrev pub is_refusal : {A : Type 0} → Answer A → Bool
 is_refusal (refusal w) = true
-is_refusal (says x) = false
+is_refusal (result x) = false

@@ -4,13 +4,13 @@ use mathlib.Core.Path.{◌≡◌, refl}
 use mathlib.Core.List.{List, [], ◌∷◌}
 use mathlib.Core.Option.{none, some}
 use Prim.Native.Nat.{ℕ, zero, suc}
-use Rattle.lists.specs.Told.{says}
-use Rattle.lists.specs.Steps.{Step, answers, one_by_one}
+use Rattle.answers.specs.Answers.{result}
+use Rattle.answers.specs.Steps.{Step, answers, one_by_one}
 
 -- a step of a walk, of which `rest` says what it is still to give: nothing is left, before and after, or it gives the first
 pub data Turn {W : Type 0} (step : W → Step W) (rest : W → List ℕ) (good : W → Type 0) (w : W) : Type 0 where
-  ended : (step w).said ≡ says none → good (step w).walk → rest (step w).walk ≡ [] → rest w ≡ [] → Turn step rest good w
-  gave : (x : ℕ) → (step w).said ≡ says (some x) → good (step w).walk → rest w ≡ x ∷ rest (step w).walk → Turn step rest good w
+  ended : (step w).said ≡ result none → good (step w).walk → rest (step w).walk ≡ [] → rest w ≡ [] → Turn step rest good w
+  gave : (x : ℕ) → (step w).said ≡ result (some x) → good (step w).walk → rest w ≡ x ∷ rest (step w).walk → Turn step rest good w
 
 module _ {W : Type 0} {step : W → Step W} {rest : W → List ℕ} {good : W → Type 0} (turn : (w : W) → good w → Turn step rest good w) where
   answer_on : (k : ℕ) (w : W) → ((v : W) → good v → answers step k v ≡ one_by_one k (rest v)) → Turn step rest good w → answers step (suc k) w ≡ one_by_one (suc k) (rest w)

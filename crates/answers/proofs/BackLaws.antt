@@ -2,23 +2,23 @@
 -- Assumes nothing.
 use Rattle.std.proofs.Common.{◌≡◌, ℕ, cond, eqb, Result, Ok, Err, Option, Some, None, refl, ap, arith}
 use Rattle.std.proofs.Math.Option as maybe
-use Rattle.lists.specs.Told.{Told, refusal, says}
+use Rattle.answers.specs.Answers.{Answer, refusal, result}
 use Rattle.answers.specs.declared.Refusal.{Refusal}
 use Rattle.answers.specs.declared.Refusal.TheVariants.{NAboveLimit, KIsZero, KAboveN, ShortMemory, CannotShrink, AllChosen, NumbersWait, TopLayer, NoSlotLeft, SlotNotActive, NoneActive, Misfit}
-use Rattle.answers.specs.Refusals.{number, told, optional, told_option}
+use Rattle.answers.specs.Refusals.{number, answer_of, optional, answer_of_option}
 
-pub told_ok : {A : Type 0} (r : Result A Refusal) (x : A) → told r ≡ says x → r ≡ Ok x
-told_ok (Ok y) x e = let q : y ≡ x = cc in cc
-told_ok (Err w) x e = let z : ◌≡◌ {A = ℕ} 0 1 = cc in absurd (omega arith)
+pub answer_ok : {A : Type 0} (r : Result A Refusal) (x : A) → answer_of r ≡ result x → r ≡ Ok x
+answer_ok (Ok y) x e = let q : y ≡ x = cc in cc
+answer_ok (Err w) x e = let z : ◌≡◌ {A = ℕ} 0 1 = cc in absurd (omega arith)
 
 pub optional_some : {A : Type 0} (o : Option A) (x : A) → optional o ≡ maybe.some x → o ≡ Some x
 optional_some (Some y) x e = let q : y ≡ x = cc in cc
 optional_some None x e = let z : ◌≡◌ {A = ℕ} 0 1 = cc in absurd (omega arith)
 
-pub told_some : {A : Type 0} (r : Result (Option A) Refusal) (x : A) → told_option r ≡ says (maybe.some x) → r ≡ Ok (Some x)
-told_some (Ok (Some y)) x e = let q : y ≡ x = cc in cc
-told_some (Ok None) x e = let z : ◌≡◌ {A = ℕ} 0 1 = cc in absurd (omega arith)
-told_some (Err w) x e = let z : ◌≡◌ {A = ℕ} 0 1 = cc in absurd (omega arith)
+pub answer_some : {A : Type 0} (r : Result (Option A) Refusal) (x : A) → answer_of_option r ≡ result (maybe.some x) → r ≡ Ok (Some x)
+answer_some (Ok (Some y)) x e = let q : y ≡ x = cc in cc
+answer_some (Ok None) x e = let z : ◌≡◌ {A = ℕ} 0 1 = cc in absurd (omega arith)
+answer_some (Err w) x e = let z : ◌≡◌ {A = ℕ} 0 1 = cc in absurd (omega arith)
 
 -- ---- a refusal by its number, and an answer by what it tells
 
@@ -51,11 +51,11 @@ refusal_back SlotNotActive = refl
 refusal_back NoneActive = refl
 refusal_back Misfit = refl
 
-unfoldable pub back : {A : Type 0} → Told A → Result A Refusal
-back (says x) = Ok x
+unfoldable pub back : {A : Type 0} → Answer A → Result A Refusal
+back (result x) = Ok x
 back (refusal n) = Err (refusal_of n)
 
-pub back_told : {A : Type 0} (r : Result A Refusal) → back (told r) ≡ r
+pub back_answer : {A : Type 0} (r : Result A Refusal) → back (answer_of r) ≡ r
 unfolding back
-back_told (Ok x) = refl
-back_told (Err w) = ap Err (refusal_back w)
+back_answer (Ok x) = refl
+back_answer (Err w) = ap Err (refusal_back w)

@@ -2,23 +2,23 @@
 -- Assumes nothing.
 use Rattle.std.specs.Prelude.{List, [], ◌∷◌, ℕ, zero, suc}
 use Rattle.std.proofs.Math.Option.{Option, none, some}
-use Rattle.lists.specs.Told.{Told, says}
+use Rattle.answers.specs.Answers.{Answer, result}
 
 -- what a call of `next` says, and the walk after it
 pub record Step (W : Type 0) : Type 0 where
-  pub said : Told (Option ℕ)
+  pub said : Answer (Option ℕ)
   pub walk : W
 
-abbrev pub stepped_to : {W : Type 0} → Told (Option ℕ) → W → Step W
+abbrev pub stepped_to : {W : Type 0} → Answer (Option ℕ) → W → Step W
 stepped_to said walk = record { said = said; walk = walk }
 
 -- what k calls of `next` say, each on the walk that the one before left
-unfoldable pub answers : {W : Type 0} → (W → Step W) → ℕ → W → List (Told (Option ℕ))
+unfoldable pub answers : {W : Type 0} → (W → Step W) → ℕ → W → List (Answer (Option ℕ))
 answers step zero w = []
 answers step (suc k) w = (step w).said ∷ answers step k (step w).walk
 
 -- k answers: the numbers of a list, one a call, then none for ever
-unfoldable pub one_by_one : ℕ → List ℕ → List (Told (Option ℕ))
+unfoldable pub one_by_one : ℕ → List ℕ → List (Answer (Option ℕ))
 one_by_one zero xs = []
-one_by_one (suc k) [] = says none ∷ one_by_one k []
-one_by_one (suc k) (x ∷ xs) = says (some x) ∷ one_by_one k xs
+one_by_one (suc k) [] = result none ∷ one_by_one k []
+one_by_one (suc k) (x ∷ xs) = result (some x) ∷ one_by_one k xs

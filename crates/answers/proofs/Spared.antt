@@ -4,39 +4,39 @@ use mathlib.Core.Path.{◌≡◌, refl, sym, ap, subst, ◌∙◌}
 use mathlib.Core.Bool.{Bool, true, true≢false}
 use mathlib.Core.List.{List, [], ◌∷◌}
 use Prim.Native.Nat.{ℕ}
-use Rattle.lists.specs.Told.{Told, refusal, says, map_told}
+use Rattle.answers.specs.Answers.{Answer, refusal, result, map_answer}
 use Rattle.lists.specs.Lists.{every, has}
-use Rattle.lists.specs.Refusing.{Among, Spares}
+use Rattle.answers.specs.Refusing.{Among, Spares}
 use Rattle.lists.proofs.Tests.{by_same}
-use Rattle.lists.proofs.Tolds.{not_said, refusal_same}
+use Rattle.answers.proofs.AnswerLaws.{not_said, refusal_same}
 use Rattle.lists.proofs.Keeping.{every_all, all_every}
 use Rattle.lists.proofs.Members.{has_no}
 use Rattle.lists.proofs.Having.{has_tail}
 
 -- what was refused has one of the numbers,
-pub among_number : {A : Type 0} (ws : List ℕ) (t : Told A) (w : ℕ) → Among ws t → t ≡ refusal w → has w ws ≡ true
+pub among_number : {A : Type 0} (ws : List ℕ) (t : Answer A) (w : ℕ) → Among ws t → t ≡ refusal w → has w ws ≡ true
 among_number ws (refusal v) w a e = subst (λ (x : ℕ). has x ws ≡ true) (refusal_same v w e) a
-among_number ws (says x) w a e = not_said w x (sym e)
+among_number ws (result x) w a e = not_said w x (sym e)
 
 -- also where it might have written,
-pub spared_among : {A M : Type 0} (ws : List ℕ) (t : Told A) (before now : M) → Spares ws t before now → Among ws t
+pub spared_among : {A M : Type 0} (ws : List ℕ) (t : Answer A) (before now : M) → Spares ws t before now → Among ws t
 spared_among ws (refusal w) before now s = s.0
-spared_among ws (says x) before now s = tt
+spared_among ws (result x) before now s = tt
 
 -- and there all stands as before.
-pub spared_same : {A M : Type 0} (ws : List ℕ) (t : Told A) (before now : M) (w : ℕ) → Spares ws t before now → t ≡ refusal w → now ≡ before
+pub spared_same : {A M : Type 0} (ws : List ℕ) (t : Answer A) (before now : M) (w : ℕ) → Spares ws t before now → t ≡ refusal w → now ≡ before
 spared_same ws (refusal v) before now w s e = s.1
-spared_same ws (says x) before now w s e = not_said w x (sym e)
+spared_same ws (result x) before now w s e = not_said w x (sym e)
 
 -- An answer in other words makes no other refusal.
-pub spared_mapped : {A B M : Type 0} (f : A → B) (ws : List ℕ) (t : Told A) (before now : M) → Spares ws t before now → Spares ws (map_told f t) before now
+pub spared_mapped : {A B M : Type 0} (f : A → B) (ws : List ℕ) (t : Answer A) (before now : M) → Spares ws t before now → Spares ws (map_answer f t) before now
 spared_mapped f ws (refusal w) before now s = s
-spared_mapped f ws (says x) before now s = tt
+spared_mapped f ws (result x) before now s = tt
 
 -- What is made of all that was lent is as it was too.
-pub spared_under : {A M N : Type 0} (f : M → N) (ws : List ℕ) (t : Told A) (before now : M) → Spares ws t before now → Spares ws t (f before) (f now)
+pub spared_under : {A M N : Type 0} (f : M → N) (ws : List ℕ) (t : Answer A) (before now : M) → Spares ws t before now → Spares ws t (f before) (f now)
 spared_under f ws (refusal w) before now s = (s.0, ap f s.1)
-spared_under f ws (says x) before now s = tt
+spared_under f ws (result x) before now s = tt
 
 -- What every number of a list passes, one of them passes.
 pub every_has : (p : ℕ → Bool) (ws : List ℕ) → every p ws ≡ true → (w : ℕ) → has w ws ≡ true → p w ≡ true
@@ -49,7 +49,7 @@ every_has p (v ∷ ws) e w h =
 pub has_within : (vs ws : List ℕ) → every (λ v. has v ws) vs ≡ true → (w : ℕ) → has w vs ≡ true → has w ws ≡ true
 has_within vs ws = every_has (λ v. has v ws) vs
 
-pub spared_within : {A M : Type 0} (vs ws : List ℕ) (t : Told A) (before now : M) → every (λ v. has v ws) vs ≡ true
+pub spared_within : {A M : Type 0} (vs ws : List ℕ) (t : Answer A) (before now : M) → every (λ v. has v ws) vs ≡ true
     → Spares vs t before now → Spares ws t before now
 spared_within vs ws (refusal w) before now e s = (has_within vs ws e w s.0, s.1)
-spared_within vs ws (says x) before now e s = tt
+spared_within vs ws (result x) before now e s = tt
