@@ -2,3 +2,4 @@ pub mod AnswerLaws
 pub mod BackLaws
 pub mod Spared
 pub mod Turns
+pub mod MakingLaws

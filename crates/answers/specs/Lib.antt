@@ -2,3 +2,4 @@ pub mod Answers
 pub mod Refusals
 pub mod Refusing
 pub mod Steps
+pub mod Making

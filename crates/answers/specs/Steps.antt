@@ -2,20 +2,16 @@
 -- Assumes nothing.
 use Rattle.std.specs.Prelude.{List, [], ◌∷◌, ℕ, zero, suc}
 use Rattle.std.proofs.Math.Option.{Option, none, some}
-use Rattle.answers.specs.Answers.{Answer, result}
+use Rattle.answers.specs.Answers.{Answer, result, After}
 
--- what a call of `next` says, and the walk after it
-pub record Step (W : Type 0) : Type 0 where
-  pub said : Answer (Option ℕ)
-  pub walk : W
+-- what a call of `next` answers, and the walk that it leaves
+abbrev pub Step : Type 0 → Type 0
+Step W = After W (Option ℕ)
 
-abbrev pub stepped_to : {W : Type 0} → Answer (Option ℕ) → W → Step W
-stepped_to said walk = record { said = said; walk = walk }
-
--- what k calls of `next` say, each on the walk that the one before left
+-- what k calls of `next` answer, each on the walk that the one before left
 unfoldable pub answers : {W : Type 0} → (W → Step W) → ℕ → W → List (Answer (Option ℕ))
 answers step zero w = []
-answers step (suc k) w = (step w).said ∷ answers step k (step w).walk
+answers step (suc k) w = (step w).answer ∷ answers step k (step w).left
 
 -- k answers: the numbers of a list, one a call, then none for ever
 unfoldable pub one_by_one : ℕ → List ℕ → List (Answer (Option ℕ))

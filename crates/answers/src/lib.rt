@@ -2,7 +2,10 @@
 #![tactic(auto)]
 
 ghost use Rattle.std.specs.Prelude.{◌≡◌};
-ghost use Rattle.answers.specs.Refusals.{number};
+ghost use Rattle.answers.specs.Answers as Answers;
+ghost use Rattle.answers.specs.Answers.{refusal};
+ghost use Rattle.answers.specs.Refusals.{number, answer_of};
+ghost use Rattle.answers.specs.Making.{by_sizes, short_refusal};
 
 use std::error::Error;
 use std::fmt;
@@ -43,6 +46,32 @@ impl Refusal {
             Refusal::NoneActive => 11,
             Refusal::Misfit => 12,
         }
+    }
+}
+
+// The tests of k and n of a call that makes a record: refusals 1, 2, 3.
+pub fn test_sizes(limit: u64, least: u64, k: u64, n: u64) -> Result<(), Refusal>
+    ensures { answer_of result ≡ by_sizes limit least k n refusal (Answers.result tt) }
+{
+    if limit < n {
+        return Err(Refusal::NAboveLimit);
+    }
+    if k < least {
+        return Err(Refusal::KIsZero);
+    }
+    if n < k {
+        return Err(Refusal::KAboveN);
+    }
+    Ok(())
+}
+
+// The refusal of such a call where lent memory is too short.
+pub fn short_refusal(limit: u64, least: u64, k: u64, n: u64) -> Refusal
+    ensures { number result ≡ short_refusal limit least k n }
+{
+    match test_sizes(limit, least, k, n) {
+        Ok(()) => Refusal::ShortMemory,
+        Err(why) => why,
     }
 }
 

@@ -11,7 +11,7 @@ use borrow.Author.Tests.{lt-ltb, le-ltb, le-leb, lt-leb, eq-eqb, ne_eqb, ltb-fal
 use lib.Dec.{ltb, eqb}
 use lib.ListN.{length, get_or, drop, length-append, length-drop}
 use lib.Seq.{length-take-le}
-use Rattle.answers.specs.Answers.{Answer, refusal, result, map_answer}
+use Rattle.answers.specs.Answers.{Answer, refusal, result, map_answer, After, refused, after}
 use Rattle.lists.specs.Lists.{last, written}
 use Rattle.lists.proofs.Tests.{by_cond, by_below}
 use Rattle.answers.proofs.AnswerLaws.{not_said, said_same, refusal_same}
@@ -19,7 +19,7 @@ use Rattle.lists.proofs.Ascending.{length_snoc, last_take}
 use Rattle.lists.proofs.Writing.{written_at}
 use Rattle.choosers.specs.declared.choose_k.ConsistentChooseKHasher.{ConsistentChooseKHasher}
 use Rattle.choosers.specs.Choosers.{g, Moved, moved, lower_at, lower, shrink, grow}
-use Rattle.choosers.specs.ChooserCalls.{samples_of, chooser_of, fitting, After, after, refused, tested, grown_by, grow_call, next_call, shrink_call}
+use Rattle.choosers.specs.ChooserCalls.{samples_of, chooser_of, fitting, tested, grown_by, grow_call, next_call, shrink_call, ChooserState, chooser_state}
 use Rattle.choosers.specs.InnerChoosers.{tests, grown, grow_in}
 use Rattle.choosers.proofs.CheckLaws.{Parts, fits_parts}
 use Rattle.choosers.proofs.CountLaws.{counts_yes, counts_no}
@@ -47,12 +47,12 @@ grow_index s xs n =
 
 -- ---- the tests that all calls on a record have, by how two tests go
 
-refused_by : (c : ConsistentChooseKHasher) (l : List ℕ) {A : Type 0} (a : After A) (w : ℕ) (fit high : Bool)
+refused_by : (c : ConsistentChooseKHasher) (l : List ℕ) {A : Type 0} (a : After ChooserState A) (w : ℕ) (fit high : Bool)
     → ◌≡◌ {A = Answer (Unit {0})} (refusal w) (cond fit (cond high (refusal 1) (result tt)) (refusal 12))
-    → refused w c l ≡ cond fit (cond high (refused 1 c l) a) (refused 12 c l)
-refused_by c l a w true true e = ap (λ (w : ℕ). refused w c l) (refusal_same w 1 e)
+    → refused w (chooser_state c l) ≡ cond fit (cond high (refused 1 (chooser_state c l)) a) (refused 12 (chooser_state c l))
+refused_by c l a w true true e = ap (λ (w : ℕ). refused w (chooser_state c l)) (refusal_same w 1 e)
 refused_by c l a w true false e = not_said w tt e
-refused_by c l a w false high e = ap (λ (w : ℕ). refused w c l) (refusal_same w 12 e)
+refused_by c l a w false high e = ap (λ (w : ℕ). refused w (chooser_state c l)) (refusal_same w 12 e)
 
 passed_by : (fit high : Bool) → ◌≡◌ {A = Answer (Unit {0})} (result tt) (cond fit (cond high (refusal 1) (result tt)) (refusal 12)) → (fit ≡ true) × (high ≡ false)
 passed_by true true e = not_said 1 tt (sym e)
@@ -60,8 +60,8 @@ passed_by true false e = (refl, refl)
 passed_by false high e = not_said 12 tt (sym e)
 
 -- what `next` says where one sample more came in: the number at its index
-abbrev pub drawn : After ℕ → After (Option ℕ)
-drawn a = after (map_answer (λ i. some (get_or a.list i 0)) a.answer) a.chooser a.list
+abbrev pub drawn : After ChooserState ℕ → After ChooserState (Option ℕ)
+drawn a = after (map_answer (λ i. some (get_or a.left.list i 0)) a.answer) (chooser_state a.left.chooser a.left.list)
 
 module _ (c : ConsistentChooseKHasher) (l : List ℕ) where
   -- ---- the tests that all have: 12, then 1
@@ -79,7 +79,7 @@ module _ (c : ConsistentChooseKHasher) (l : List ℕ) where
   tests_pass e h = rw (e, le-ltb (2 ^ 62) c.n h)
 
   -- what they refuse, every call refuses
-  pub tests_refuse : {A : Type 0} (a : After A) (w : ℕ) → refusal w ≡ tests c l → refused w c l ≡ tested c l a
+  pub tests_refuse : {A : Type 0} (a : After ChooserState A) (w : ℕ) → refusal w ≡ tests c l → refused w (chooser_state c l) ≡ tested c l a
   unfolding tests tested
   tests_refuse a w e = refused_by c l a w (fitting c l) (ltb (2 ^ 62) c.n) e
 
@@ -91,7 +91,7 @@ module _ (c : ConsistentChooseKHasher) (l : List ℕ) where
       (p.0, ltb-false (2 ^ 62) c.n p.1)
 
   module _ (ok : fitting c l ≡ true) (small : c.n ≤ 2 ^ 62) where
-    pub tested_good : {A : Type 0} (a : After A) → tested c l a ≡ a
+    pub tested_good : {A : Type 0} (a : After ChooserState A) → tested c l a ≡ a
     unfolding tested
     tested_good a = rw (ok, le-ltb (2 ^ 62) c.n small)
 
@@ -103,16 +103,16 @@ module _ (c : ConsistentChooseKHasher) (l : List ℕ) where
 
     -- ---- grow and next
 
-    pub grow_full : c.k ≡ c.n → refused 6 c l ≡ grow_call c l
+    pub grow_full : c.k ≡ c.n → refused 6 (chooser_state c l) ≡ grow_call c l
     unfolding grow_call
     grow_full e = rw (tested_good _, eq-eqb c.k c.n e)
 
-    pub next_full : c.k ≡ c.n → after (result none) c l ≡ next_call c l
+    pub next_full : c.k ≡ c.n → after (result none) (chooser_state c l) ≡ next_call c l
     unfolding next_call
     next_full e = rw (tested_good _, eq-eqb c.k c.n e)
 
     module _ (more : c.k ≢ c.n) where
-      pub next_short : length l < c.k + 1 → refused 4 c l ≡ next_call c l
+      pub next_short : length l < c.k + 1 → refused 4 (chooser_state c l) ≡ next_call c l
       unfolding next_call grown_by
       next_short h = rw (tested_good _, ne_eqb c.k c.n more, lt-ltb (length l) (c.k + 1) h)
 
@@ -133,11 +133,11 @@ module _ (c : ConsistentChooseKHasher) (l : List ℕ) where
         pub index_within : i ≤ c.k
         index_within = omega (arith, index_is, grow_index c.state (samples_of c l) c.n, long)
 
-        pub grown_done : after (result i) (chooser_of c.state c.n (c.k + 1)) now ≡ grown c l
+        pub grown_done : after (result i) (chooser_state (chooser_of c.state c.n (c.k + 1)) now) ≡ grown c l
         unfolding grown grown_by
         grown_done = rw (le-ltb (length l) (c.k + 1) room, now_is, index_is)
 
-        pub next_done : after (result (some (get_or now i 0))) (chooser_of c.state c.n (c.k + 1)) now ≡ next_call c l
+        pub next_done : after (result (some (get_or now i 0))) (chooser_state (chooser_of c.state c.n (c.k + 1)) now) ≡ next_call c l
         unfolding next_call grown_by
         next_done =
             let x : get_or now i 0 ≡ get_or step.samples step.index 0
@@ -154,7 +154,7 @@ module _ (c : ConsistentChooseKHasher) (l : List ℕ) where
 
     -- ---- one sample more, as one function of the code makes it
 
-    pub grown_short : length l ≤ c.k → refused 4 c l ≡ grown c l
+    pub grown_short : length l ≤ c.k → refused 4 (chooser_state c l) ≡ grown c l
     unfolding grown grown_by
     grown_short h = rw (lt-ltb (length l) (c.k + 1) (omega arith))
 
@@ -170,25 +170,25 @@ module _ (c : ConsistentChooseKHasher) (l : List ℕ) where
           (λ h. sym (next_done more h _ _ refl) ∙ ap drawn (grown_done more h _ _ refl))
 
       -- the index that is answered lies in the list
-      pub grown_index : (i : ℕ) (c' : ConsistentChooseKHasher) (l' : List ℕ) → after (result i) c' l' ≡ grown c l → i < length l'
+      pub grown_index : (i : ℕ) (c' : ConsistentChooseKHasher) (l' : List ℕ) → after (result i) (chooser_state c' l') ≡ grown c l → i < length l'
       grown_index i c' l' e =
           by_below (length l) (c.k + 1)
-          (λ h. let z : refusal 4 ≡ result i = ap (λ (a : After ℕ). a.answer) (grown_short (omega arith) ∙ sym e) in not_said 4 i z)
+          (λ h. let z : refusal 4 ≡ result i = ap (λ (a : After ChooserState ℕ). a.answer) (grown_short (omega arith) ∙ sym e) in not_said 4 i z)
           (λ h.
           let now = grow_in c.state c.k l c.n in
-          let d : after (result now.index) (chooser_of c.state c.n (c.k + 1)) now.samples ≡ after (result i) c' l' = grown_done more h _ _ refl ∙ sym e in
-          let at : now.index ≡ i = said_same now.index i (ap (λ (a : After ℕ). a.answer) d) in
-          let long : length now.samples ≡ length l' = ap (λ (a : After ℕ). length a.list) d in
+          let d : after (result now.index) (chooser_state (chooser_of c.state c.n (c.k + 1)) now.samples) ≡ after (result i) (chooser_state c' l') = grown_done more h _ _ refl ∙ sym e in
+          let at : now.index ≡ i = said_same now.index i (ap (λ (a : After ChooserState ℕ). a.answer) d) in
+          let long : length now.samples ≡ length l' = ap (λ (a : After ChooserState ℕ). length a.left.list) d in
           omega (arith, at, long, grown_length h, index_within more h now.samples now.index refl))
 
     -- ---- shrink
 
-    pub shrink_none : c.k ≡ 0 → refused 5 c l ≡ shrink_call c l
+    pub shrink_none : c.k ≡ 0 → refused 5 (chooser_state c l) ≡ shrink_call c l
     unfolding shrink_call
     shrink_none e = rw (tested_good _, eq-eqb c.k 0 e)
 
     module _ (some : c.k ≢ 0) where
-      pub shrink_all : c.n ≤ c.k → refused 5 c l ≡ shrink_call c l
+      pub shrink_all : c.n ≤ c.k → refused 5 (chooser_state c l) ≡ shrink_call c l
       unfolding shrink_call
       shrink_all h = rw (tested_good _, ne_eqb c.k 0 some, le-leb c.n c.k h)
 
@@ -196,7 +196,7 @@ module _ (c : ConsistentChooseKHasher) (l : List ℕ) where
       last_is = last_take c.k l (omega (arith, some)) parts.within
 
       module _ (wide : c.k < c.n) where
-        pub shrink_low : get_or l (c.k - 1) 0 < c.k → refused 5 c l ≡ shrink_call c l
+        pub shrink_low : get_or l (c.k - 1) 0 < c.k → refused 5 (chooser_state c l) ≡ shrink_call c l
         unfolding shrink_call
         shrink_low h =
             rw (
@@ -207,7 +207,7 @@ module _ (c : ConsistentChooseKHasher) (l : List ℕ) where
             )
 
         pub shrink_done : (now : List ℕ) (i : ℕ) → c.k ≤ get_or l (c.k - 1) 0 → moved now i ≡ lower_at c.state c.k l (get_or l (c.k - 1) 0)
-            → after (result i) (chooser_of c.state (get_or l (c.k - 1) 0) c.k) now ≡ shrink_call c l
+            → after (result i) (chooser_state (chooser_of c.state (get_or l (c.k - 1) 0) c.k) now) ≡ shrink_call c l
         unfolding shrink_call shrink written
         shrink_done now i h e =
             let m : Moved = lower c.state (samples_of c l) (last (samples_of c l)) in

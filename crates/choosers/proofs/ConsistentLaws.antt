@@ -13,7 +13,7 @@ use borrow.Author.Tests.{eqb-false}
 use lib.Dec.{ltb, leb, eqb}
 use lib.ListN.{length, get_or, take}
 use lib.Seq.{length-take-le}
-use Rattle.answers.specs.Answers.{result}
+use Rattle.answers.specs.Answers.{result, refused, after, After}
 use Rattle.lists.specs.Lists.{last, lacked, written}
 use Rattle.lists.proofs.Tests.{by_cond, by_below, same_no}
 use Rattle.lists.proofs.Members.{occurrences_append}
@@ -21,7 +21,7 @@ use Rattle.lists.proofs.Inserting.{lacked_insert_at}
 use Rattle.lists.proofs.Writing.{written_take, written_at}
 use Rattle.choosers.specs.declared.choose_k.ConsistentChooseKHasher.{ConsistentChooseKHasher}
 use Rattle.choosers.specs.Choosers.{largest_g, S, Moved, moved, grow, shrink}
-use Rattle.choosers.specs.ChooserCalls.{samples_of, chooser_of, fitting, After, after, refused, tested, grown_by, grow_call, next_call, counts_from, shrink_call, Chooses, Consistent, ConsistentNext}
+use Rattle.choosers.specs.ChooserCalls.{samples_of, chooser_of, fitting, tested, grown_by, grow_call, next_call, counts_from, shrink_call, Chooses, Consistent, ConsistentNext, chooser_state, ChooserState}
 use Rattle.choosers.proofs.SampleLaws.{length_S}
 use Rattle.choosers.proofs.LoweringLaws.{place, place_le, grow_gives, shrink_gives, last_S, S_open}
 use Rattle.choosers.proofs.PlaceLaws.{new, new_lt, new_fresh, new_lacked, place_new, S_insert}
@@ -35,25 +35,25 @@ or_false false b e = (refl, e)
 -- ---- a call that changes nothing
 
 module _ (c : ConsistentChooseKHasher) (l : List ℕ) where
-  refused_keeps : (w : ℕ) → Consistent c l (refused w c l)
+  refused_keeps : (w : ℕ) → Consistent c l (refused w (chooser_state c l))
   refused_keeps w = record {
     chooses = λ h. h;
     index = λ h i e. let z : ◌≡◌ {A = ℕ} 0 1 = cc in absurd (omega arith);
   }
 
-  refused_keeps_next : (w : ℕ) → ConsistentNext c l (refused w c l)
+  refused_keeps_next : (w : ℕ) → ConsistentNext c l (refused w (chooser_state c l))
   refused_keeps_next w = record {
     chooses = λ h. h;
     number = λ h x e. let z : ◌≡◌ {A = ℕ} 0 1 = cc in absurd (omega arith);
   }
 
-  none_keeps : ConsistentNext c l (after (result none) c l)
+  none_keeps : ConsistentNext c l (after (result none) (chooser_state c l))
   none_keeps = record {
     chooses = λ h. h;
     number = λ h x e. let z : ◌≡◌ {A = ℕ} 0 1 = cc in absurd (omega arith);
   }
 
-  pub tested_keeps : {A : Type 0} (P : After A → Type 0) (a : After A) → ((w : ℕ) → P (refused w c l)) → (Parts c l → P a) → P (tested c l a)
+  pub tested_keeps : {A : Type 0} (P : After ChooserState A → Type 0) (a : After ChooserState A) → ((w : ℕ) → P (refused w (chooser_state c l))) → (Parts c l → P a) → P (tested c l a)
   unfolding tested
   tested_keeps P a r f =
       by_cond P (fitting c l) _ _
@@ -173,7 +173,7 @@ module _ (c : ConsistentChooseKHasher) (l : List ℕ) where
         ∙ rw (same_no b (new c.state j b) (λ q. omega (arith, q, new_lt c.state j b high))) (omega (arith, new_fresh c.state j b high))))
 
   shrunk_keeps : Parts c l → (k : ℕ) → c.k ≡ k → k ≢ 0 → counts_from 0 (samples_of c l) ≡ false → (m : Moved) → m ≡ shrink c.state (samples_of c l)
-      → Consistent c l (after (result m.index) (chooser_of c.state (last (samples_of c l)) c.k) (written m.samples l))
+      → Consistent c l (after (result m.index) (chooser_state (chooser_of c.state (last (samples_of c l)) c.k) (written m.samples l)))
   shrunk_keeps p zero q d f m e = absurd (d refl)
   shrunk_keeps p (suc j) q d f m e = record {
     chooses = λ h. rw e (shrunk_taken p j q f h ∙ ap (λ (k : ℕ). S c.state k (b p j q f h)) (sym q) ∙ ap (S c.state c.k) (sym (last_is p j q f h)));
@@ -193,11 +193,11 @@ module _ (c : ConsistentChooseKHasher) (l : List ℕ) where
 
   -- ---- what a call leaves, by its steps and by S: for the promises
 
-  pub grow_both : (a : After ℕ) → a ≡ grow_call c l → (a ≡ grow_call c l) × Consistent c l a
+  pub grow_both : (a : After ChooserState ℕ) → a ≡ grow_call c l → (a ≡ grow_call c l) × Consistent c l a
   grow_both a e = (e, subst (Consistent c l) (sym e) grow_consistent)
 
-  pub next_both : (a : After (Option ℕ)) → a ≡ next_call c l → (a ≡ next_call c l) × ConsistentNext c l a
+  pub next_both : (a : After ChooserState (Option ℕ)) → a ≡ next_call c l → (a ≡ next_call c l) × ConsistentNext c l a
   next_both a e = (e, subst (ConsistentNext c l) (sym e) next_consistent)
 
-  pub shrink_both : (a : After ℕ) → a ≡ shrink_call c l → (a ≡ shrink_call c l) × Consistent c l a
+  pub shrink_both : (a : After ChooserState ℕ) → a ≡ shrink_call c l → (a ≡ shrink_call c l) × Consistent c l a
   shrink_both a e = (e, subst (Consistent c l) (sym e) shrink_consistent)

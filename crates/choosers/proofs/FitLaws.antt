@@ -10,13 +10,13 @@ use borrow.Author.Tests.{ltb-false, eqb-false}
 use lib.Dec.{ltb, leb, eqb}
 use lib.ListN.{length}
 use lib.Seq.{length-take-le}
-use Rattle.answers.specs.Answers.{result}
+use Rattle.answers.specs.Answers.{result, After, after}
 use Rattle.lists.specs.Lists.{last, written, Ascending}
 use Rattle.lists.proofs.Tests.{by_cond, by_below}
 use Rattle.lists.proofs.Writing.{written_take, length_written}
 use Rattle.choosers.specs.declared.choose_k.ConsistentChooseKHasher.{ConsistentChooseKHasher}
 use Rattle.choosers.specs.Choosers.{grow, shrink}
-use Rattle.choosers.specs.ChooserCalls.{chooser_of, samples_of, fitting, After, after, grown_by, grow_call, next_call, counts_from, shrink_call}
+use Rattle.choosers.specs.ChooserCalls.{chooser_of, samples_of, fitting, grown_by, grow_call, next_call, counts_from, shrink_call, ChooserState, chooser_state}
 use Rattle.choosers.proofs.CheckLaws.{Parts, fits_of}
 use Rattle.choosers.proofs.CountLaws.{counts_yes}
 use Rattle.choosers.proofs.StepLaws.{grow_ascends, shrink_ascends}
@@ -24,8 +24,8 @@ use Rattle.choosers.proofs.ChooserCallLaws.{grow_length, shrink_length}
 use Rattle.choosers.proofs.ConsistentLaws.{or_false, tested_keeps}
 
 module _ (c : ConsistentChooseKHasher) (l : List ℕ) (ok : fitting c l ≡ true) where
-  abbrev Fits : {A : Type 0} → After A → Type 0
-  Fits a = fitting a.chooser a.list ≡ true
+  abbrev Fits : {A : Type 0} → After ChooserState A → Type 0
+  Fits a = fitting a.left.chooser a.left.list ≡ true
 
   -- samples that ascend, written to the list
   written_fits : (xs : List ℕ) (n k : ℕ) → length xs ≡ k → k ≤ length l → Ascending xs n → fitting (chooser_of c.state n k) (written xs l) ≡ true
@@ -56,7 +56,7 @@ module _ (c : ConsistentChooseKHasher) (l : List ℕ) (ok : fitting c l ≡ true
       tested_keeps c l Fits _ (λ _. ok) (λ p.
       by_cond Fits (eqb c.k c.n) _ _ (λ _. ok) (λ d. grown_fits p (eqb-false c.k c.n d) _))
 
-  shrunk_fits : Parts c l → c.k ≢ 0 → counts_from 0 (samples_of c l) ≡ false → Fits (after (result (shrink c.state (samples_of c l)).index) (chooser_of c.state (last (samples_of c l)) c.k) (written (shrink c.state (samples_of c l)).samples l))
+  shrunk_fits : Parts c l → c.k ≢ 0 → counts_from 0 (samples_of c l) ≡ false → Fits (after (result (shrink c.state (samples_of c l)).index) (chooser_state (chooser_of c.state (last (samples_of c l)) c.k) (written (shrink c.state (samples_of c l)).samples l)))
   shrunk_fits p more not_first =
       let long : length (samples_of c l) ≡ c.k = length-take-le c.k l p.within in
       let high : length (samples_of c l) ≤ last (samples_of c l)

@@ -11,13 +11,13 @@ use borrow.Author.Tests.{lt-ltb, le-ltb, eq-eqb, ne_eqb}
 use lib.Dec.{eqb}
 use lib.ListN.{length, get_or, set, length-set}
 use lib.Seq.{get_or-set_same, get_or-set_other}
-use Rattle.answers.specs.Answers.{result}
+use Rattle.answers.specs.Answers.{result, After, refused, after}
 use Rattle.lists.specs.Lists.{has, without}
 use Rattle.answers.proofs.AnswerLaws.{not_said}
 use Rattle.lists.proofs.Tests.{by_test, by_below, by_same}
 use Rattle.choosers.specs.declared.node_map.ConsistentNodeMap.{ConsistentNodeMap}
 use Rattle.choosers.specs.Slots.{active, actives, slot_among}
-use Rattle.choosers.specs.SlotCalls.{map_of, fitting, After, after, refused, remove_call}
+use Rattle.choosers.specs.SlotCalls.{map_of, fitting, remove_call, SlotState, slot_state}
 use Rattle.choosers.proofs.TableLaws.{active_no, active_over, active_same, active→}
 use Rattle.choosers.proofs.SlotCallLaws.{Parts, set_small, fits_parts, fits_of, remove_unfit, remove_none, remove_last, remove_other}
 use Rattle.choosers.proofs.SlotLaws.{has_actives, slot_out}
@@ -25,11 +25,11 @@ use Rattle.choosers.proofs.ActiveLaws.{Out, out_actives, out_length}
 
 module _ (m : ConsistentNodeMap) (t : List ℕ) (x : ℕ) where
   -- a remove by its cases
-  remove_by : (P : After (Unit {0}) → Type 0)
-      → (fitting m t ≡ false → P (refused 12 m t))
-      → (fitting m t ≡ true → P (refused 10 m t))
-      → (Parts m t → active t m.total x ≡ true → x + 1 ≡ m.total → P (after (result tt) (map_of x) t))
-      → (Parts m t → active t m.total x ≡ true → x + 1 ≢ m.total → P (after (result tt) m (set t x 0)))
+  remove_by : (P : After SlotState (Unit {0}) → Type 0)
+      → (fitting m t ≡ false → P (refused 12 (slot_state m t)))
+      → (fitting m t ≡ true → P (refused 10 (slot_state m t)))
+      → (Parts m t → active t m.total x ≡ true → x + 1 ≡ m.total → P (after (result tt) (slot_state (map_of x) t)))
+      → (Parts m t → active t m.total x ≡ true → x + 1 ≢ m.total → P (after (result tt) (slot_state m (set t x 0))))
       → P (remove_call m t x)
   remove_by P unfit off end mid =
       by_test (fitting m t)
@@ -57,10 +57,10 @@ module _ (m : ConsistentNodeMap) (t : List ℕ) (x : ℕ) where
     rest = λ y d. active_same (set t x 0) t m.total m.total y refl (get_or-set_other t x y 0 0 d);
   }
 
-  record Removes (a : After (Unit {0})) : Type 0 where
+  record Removes (a : After SlotState (Unit {0})) : Type 0 where
     was : active t m.total x ≡ true
-    out : Out t m.total x a.table a.map.total
-    count : a.map.total ≡ cond (eqb (x + 1) m.total) x m.total
+    out : Out t m.total x a.left.table a.left.map.total
+    count : a.left.map.total ≡ cond (eqb (x + 1) m.total) x m.total
 
   removes : (remove_call m t x).answer ≡ result tt → Removes (remove_call m t x)
   removes =
@@ -78,33 +78,33 @@ module _ (m : ConsistentNodeMap) (t : List ℕ) (x : ℕ) where
   pub remove_active : fitting m t ≡ true → active t m.total x ≡ true → (remove_call m t x).answer ≡ result tt
   remove_active ok y =
       by_same (x + 1) m.total
-      (λ e. ap (λ (a : After (Unit {0})). a.answer) (remove_last m t x ok y e))
-      (λ d. ap (λ (a : After (Unit {0})). a.answer) (remove_other m t x ok y d))
+      (λ e. ap (λ (a : After SlotState (Unit {0})). a.answer) (remove_last m t x ok y e))
+      (λ d. ap (λ (a : After SlotState (Unit {0})). a.answer) (remove_other m t x ok y d))
 
   -- Of an accepted remove of x: x was active,
   pub remove_was : (remove_call m t x).answer ≡ result tt → has x (actives t m.total) ≡ true
   remove_was e = has_actives t m.total x ∙ (removes e).was
 
   -- the active slots after it are those before without x,
-  pub remove_actives : (remove_call m t x).answer ≡ result tt → actives (remove_call m t x).table (remove_call m t x).map.total ≡ without x (actives t m.total)
+  pub remove_actives : (remove_call m t x).answer ≡ result tt → actives (remove_call m t x).left.table (remove_call m t x).left.map.total ≡ without x (actives t m.total)
   remove_actives e = out_actives (removes e).out
 
-  pub remove_length : (remove_call m t x).answer ≡ result tt → suc (length (actives (remove_call m t x).table (remove_call m t x).map.total)) ≡ length (actives t m.total)
+  pub remove_length : (remove_call m t x).answer ≡ result tt → suc (length (actives (remove_call m t x).left.table (remove_call m t x).left.map.total)) ≡ length (actives t m.total)
   remove_length e = out_length (removes e).out (removes e).was
 
   -- a state's slot is the one before where that was not x,
   pub remove_slot : (remove_call m t x).answer ≡ result tt → (s : ℕ) → slot_among s (actives t m.total) ≢ some x
-      → slot_among s (actives (remove_call m t x).table (remove_call m t x).map.total) ≡ slot_among s (actives t m.total)
+      → slot_among s (actives (remove_call m t x).left.table (remove_call m t x).left.map.total) ≡ slot_among s (actives t m.total)
   remove_slot e s d = ap (slot_among s) (remove_actives e) ∙ slot_out s (actives t m.total) x d
 
   -- and the count is one less where x was the last slot.
-  pub remove_count : (remove_call m t x).answer ≡ result tt → (remove_call m t x).map.total ≡ cond (eqb (x + 1) m.total) x m.total
+  pub remove_count : (remove_call m t x).answer ≡ result tt → (remove_call m t x).left.map.total ≡ cond (eqb (x + 1) m.total) x m.total
   remove_count e = (removes e).count
 
   -- A fitting map fits after a remove, refused or not.
-  pub remove_fits : fitting m t ≡ true → fitting (remove_call m t x).map (remove_call m t x).table ≡ true
+  pub remove_fits : fitting m t ≡ true → fitting (remove_call m t x).left.map (remove_call m t x).left.table ≡ true
   remove_fits ok =
-      remove_by (λ a. fitting a.map a.table ≡ true)
+      remove_by (λ a. fitting a.left.map a.left.table ≡ true)
       (λ no. ok)
       (λ yes. ok)
       (λ p y e. fits_of (map_of x) t (record {
@@ -119,9 +119,9 @@ module _ (m : ConsistentNodeMap) (t : List ℕ) (x : ℕ) where
       }))
 
   -- The table keeps its length.
-  pub remove_bytes : length (remove_call m t x).table ≡ length t
+  pub remove_bytes : length (remove_call m t x).left.table ≡ length t
   remove_bytes =
-      remove_by (λ a. length a.table ≡ length t)
+      remove_by (λ a. length a.left.table ≡ length t)
       (λ no. refl)
       (λ yes. refl)
       (λ p y e. refl)

@@ -10,14 +10,14 @@ use borrow.Author.Tests.{lt-ltb, le-ltb, le-leb, lt-leb, eq-eqb, ne_eqb, leb-tru
 use lib.Dec.{leb}
 use lib.ListN.{length, get_or, take, set}
 use lib.Seq.{get_or-set_same, get_or-set_other}
-use Rattle.answers.specs.Answers.{refusal, result}
+use Rattle.answers.specs.Answers.{refusal, result, refused, after}
 use Rattle.lists.specs.Lists.{every}
 use Rattle.lists.proofs.Tests.{by_same}
 use Rattle.lists.proofs.Keeping.{both}
 use Rattle.lists.proofs.Ranges.{every_take, every_place}
 use Rattle.choosers.specs.declared.node_map.ConsistentNodeMap.{ConsistentNodeMap}
 use Rattle.choosers.specs.Slots.{active, vacant}
-use Rattle.choosers.specs.SlotCalls.{map_of, slot_limit, at_most_one, fitting, after, refused, add_call, remove_call, queried}
+use Rattle.choosers.specs.SlotCalls.{map_of, slot_limit, at_most_one, fitting, add_call, remove_call, queried, slot_state}
 
 -- ---- the test of refusal 12
 
@@ -78,45 +78,45 @@ module _ (m : ConsistentNodeMap) (t : List ℕ) where
 
   -- ---- add
 
-  pub add_unfit : fitting m t ≡ false → add_call m t ≡ refused 12 m t
+  pub add_unfit : fitting m t ≡ false → add_call m t ≡ refused 12 (slot_state m t)
   unfolding add_call
   add_unfit e = rw e
 
   -- x: the lowest deleted slot, else the count
   module _ (ok : fitting m t ≡ true) (x : ℕ) (is : x ≡ vacant t m.total) where
-    pub add_vacant : x < m.total → add_call m t ≡ after (result x) m (set t x 1)
+    pub add_vacant : x < m.total → add_call m t ≡ after (result x) (slot_state m (set t x 1))
     unfolding add_call
     add_vacant h = rw (ok, ← is, lt-ltb x m.total h)
 
-    pub add_full : m.total ≤ x → m.total ≡ length t → add_call m t ≡ refused 9 m t
+    pub add_full : m.total ≤ x → m.total ≡ length t → add_call m t ≡ refused 9 (slot_state m t)
     unfolding add_call
     add_full h e = rw (ok, ← is, le-ltb x m.total h, eq-eqb m.total (length t) e)
 
-    pub add_limit : m.total ≤ x → m.total ≢ length t → m.total ≡ slot_limit → add_call m t ≡ refused 9 m t
+    pub add_limit : m.total ≤ x → m.total ≢ length t → m.total ≡ slot_limit → add_call m t ≡ refused 9 (slot_state m t)
     unfolding add_call
     add_limit h d e = rw (ok, ← is, le-ltb x m.total h, ne_eqb m.total (length t) d, eq-eqb m.total slot_limit e)
 
-    pub add_new : m.total ≤ x → m.total ≢ length t → m.total ≢ slot_limit → add_call m t ≡ after (result m.total) (map_of (m.total + 1)) (set t m.total 1)
+    pub add_new : m.total ≤ x → m.total ≢ length t → m.total ≢ slot_limit → add_call m t ≡ after (result m.total) (slot_state (map_of (m.total + 1)) (set t m.total 1))
     unfolding add_call
     add_new h d e = rw (ok, ← is, le-ltb x m.total h, ne_eqb m.total (length t) d, ne_eqb m.total slot_limit e)
 
   -- ---- remove
 
   module _ (x : ℕ) where
-    pub remove_unfit : fitting m t ≡ false → remove_call m t x ≡ refused 12 m t
+    pub remove_unfit : fitting m t ≡ false → remove_call m t x ≡ refused 12 (slot_state m t)
     unfolding remove_call
     remove_unfit e = rw e
 
     module _ (ok : fitting m t ≡ true) where
-      pub remove_none : active t m.total x ≡ false → remove_call m t x ≡ refused 10 m t
+      pub remove_none : active t m.total x ≡ false → remove_call m t x ≡ refused 10 (slot_state m t)
       unfolding remove_call
       remove_none e = rw (ok, e)
 
-      pub remove_last : active t m.total x ≡ true → x + 1 ≡ m.total → remove_call m t x ≡ after (result tt) (map_of x) t
+      pub remove_last : active t m.total x ≡ true → x + 1 ≡ m.total → remove_call m t x ≡ after (result tt) (slot_state (map_of x) t)
       unfolding remove_call
       remove_last y e = rw (ok, y, eq-eqb (x + 1) m.total e)
 
-      pub remove_other : active t m.total x ≡ true → x + 1 ≢ m.total → remove_call m t x ≡ after (result tt) m (set t x 0)
+      pub remove_other : active t m.total x ≡ true → x + 1 ≢ m.total → remove_call m t x ≡ after (result tt) (slot_state m (set t x 0))
       unfolding remove_call
       remove_other y d = rw (ok, y, ne_eqb (x + 1) m.total d)
 

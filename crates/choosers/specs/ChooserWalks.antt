@@ -2,19 +2,11 @@
 -- Assumes nothing.
 use Rattle.std.specs.Prelude.{List, ℕ}
 use Rattle.answers.specs.Steps.{Step}
-use Rattle.choosers.specs.declared.choose_k.ConsistentChooseKHasher.{ConsistentChooseKHasher}
-use Rattle.choosers.specs.ChooserCalls.{chooser_of, next_call}
+use Rattle.choosers.specs.ChooserCalls.{chooser_of, next_call, ChooserState, chooser_state}
 
--- a chooser and its list
-pub record Walk : Type 0 where
-  pub chooser : ConsistentChooseKHasher
-  pub list : List ℕ
-
-abbrev pub next_step : Walk → Step Walk
-next_step w =
-    let a = next_call w.chooser w.list in
-    record { said = a.answer; walk = record { chooser = a.chooser; list = a.list } }
+abbrev pub next_step : ChooserState → Step ChooserState
+next_step w = next_call w.chooser w.list
 
 -- a new chooser, before its first `next`
-abbrev pub walk_from : ℕ → ℕ → List ℕ → Walk
-walk_from s n l = record { chooser = chooser_of s n 0; list = l }
+abbrev pub walk_from : ℕ → ℕ → List ℕ → ChooserState
+walk_from s n l = chooser_state (chooser_of s n 0) l

@@ -1,17 +1,17 @@
 -- What private functions of the choosers leave. No public promise cites it.
 -- Assumes nothing.
 use Rattle.std.specs.Prelude.{◌≡◌, ◌⊎◌, cond, List, ◌++◌, ℕ, suc, ◌^◌, ltb, ◌<◌, get_or, take, drop}
-use Rattle.answers.specs.Answers.{Answer, refusal, result}
+use Rattle.answers.specs.Answers.{Answer, refusal, result, After}
 use Rattle.choosers.specs.declared.choose_k.ConsistentChooseKHasher.{ConsistentChooseKHasher}
 use Rattle.choosers.specs.Choosers.{g, Moved, moved, grow}
-use Rattle.choosers.specs.ChooserCalls.{samples_of, fitting, After, grown_by}
+use Rattle.choosers.specs.ChooserCalls.{samples_of, fitting, grown_by, ChooserState}
 
 -- what the tests say that every call on a record begins with
 unfoldable pub tests : ConsistentChooseKHasher → List ℕ → Answer (Unit {0})
 tests c l = cond (fitting c l) (cond (ltb (2 ^ 62) c.n) (refusal 1) (result tt)) (refusal 12)
 
 -- one sample more, where the tests are passed and not all n are there
-unfoldable pub grown : ConsistentChooseKHasher → List ℕ → After ℕ
+unfoldable pub grown : ConsistentChooseKHasher → List ℕ → After ChooserState ℕ
 grown c l =
     let m = grow c.state (samples_of c l) c.n in
     grown_by c l m m.index

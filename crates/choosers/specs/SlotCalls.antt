@@ -2,7 +2,7 @@
 -- Assumes nothing.
 use Rattle.std.specs.Prelude.{◌≡◌, Bool, cond, ◌||◌, ◌&&◌, List, ℕ, ◌+◌, min, ltb, leb, eqb, length, set, take, Result, Ok, Err}
 use Rattle.std.proofs.Math.Option as maybe
-use Rattle.answers.specs.Answers.{Answer, refusal, result}
+use Rattle.answers.specs.Answers.{Answer, refusal, result, After, after, refused}
 use Rattle.lists.specs.Lists.{every, find}
 use Rattle.answers.specs.declared.Refusal.{Refusal}
 use Rattle.choosers.specs.declared.node_map.ConsistentNodeMap.{ConsistentNodeMap}
@@ -11,6 +11,14 @@ use Rattle.choosers.specs.Slots.{active, actives, vacant, holder}
 
 abbrev pub map_of : ℕ → ConsistentNodeMap
 map_of c = record { total = c }
+
+-- a map and its table
+pub record SlotState : Type 0 where
+  pub map : ConsistentNodeMap
+  pub table : List ℕ
+
+abbrev pub slot_state : ConsistentNodeMap → List ℕ → SlotState
+slot_state m t = record { map = m; table = t }
 
 -- "9 .. the count at .. 65,536"
 abbrev pub slot_limit : ℕ
@@ -25,41 +33,28 @@ fitting m t = leb m.total (length t) && leb m.total slot_limit && every at_most_
 
 -- ---- add and remove
 
--- what a call on a map says, and the map and the table after it
-pub record After (A : Type 0) : Type 0 where
-  pub answer : Answer A
-  pub map : ConsistentNodeMap
-  pub table : List ℕ
-
-abbrev pub after : {A : Type 0} → Answer A → ConsistentNodeMap → List ℕ → After A
-after w m t = record { answer = w; map = m; table = t }
-
--- a refusal changes nothing
-abbrev pub refused : {A : Type 0} → ℕ → ConsistentNodeMap → List ℕ → After A
-refused w m t = after (refusal w) m t
-
 -- "Add takes the lowest deleted slot below the count, else the count, then one higher, and sets its byte to 1". 9: "add with no
 -- deleted slot and the count at the table's length, or 65,536".
-unfoldable pub add_call : ConsistentNodeMap → List ℕ → After ℕ
+unfoldable pub add_call : ConsistentNodeMap → List ℕ → After SlotState ℕ
 add_call m t =
     let c = m.total in
     let x = vacant t c in
     cond (fitting m t)
-    (cond (ltb x c) (after (result x) m (set t x 1))
-    (cond (eqb c (length t) || eqb c slot_limit) (refused 9 m t)
-    (after (result c) (map_of (c + 1)) (set t c 1))))
-    (refused 12 m t)
+    (cond (ltb x c) (after (result x) (slot_state m (set t x 1)))
+    (cond (eqb c (length t) || eqb c slot_limit) (refused 9 (slot_state m t))
+    (after (result c) (slot_state (map_of (c + 1)) (set t c 1)))))
+    (refused 12 (slot_state m t))
 
 -- "Remove of the last slot lowers the count by one only and writes no byte; of another it sets the byte to 0." 10: "remove of a
 -- slot not active".
-unfoldable pub remove_call : ConsistentNodeMap → List ℕ → ℕ → After (Unit {0})
+unfoldable pub remove_call : ConsistentNodeMap → List ℕ → ℕ → After SlotState (Unit {0})
 remove_call m t x =
     let c = m.total in
     cond (fitting m t)
     (cond (active t c x)
-    (cond (eqb (x + 1) c) (after (result tt) (map_of x) t) (after (result tt) m (set t x 0)))
-    (refused 10 m t))
-    (refused 12 m t)
+    (cond (eqb (x + 1) c) (after (result tt) (slot_state (map_of x) t)) (after (result tt) (slot_state m (set t x 0))))
+    (refused 10 (slot_state m t)))
+    (refused 12 (slot_state m t))
 
 -- ---- the slot queries
 

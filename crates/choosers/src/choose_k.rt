@@ -2,8 +2,8 @@
 // since the project has no heap.
 ghost use Rattle.std.specs.Prelude.{◌≡◌, ◌≢◌};
 ghost use Rattle.answers.specs.Refusals.{answer_of, answer_of_option};
-ghost use Rattle.answers.specs.Answers.{result};
-ghost use Rattle.choosers.specs.ChooserCalls.{new_call, after_new, new_with_k_call, fitting, after, grow_call, next_call, shrink_call, Consistent, ConsistentNext};
+ghost use Rattle.answers.specs.Answers.{after, result};
+ghost use Rattle.choosers.specs.ChooserCalls.{chooser_state, new_call, new_with_k_call, fitting, grow_call, next_call, shrink_call, Consistent, ConsistentNext};
 ghost use Rattle.choosers.specs.InnerChoosers.{tests, grown};
 
 use crate::samples;
@@ -35,14 +35,9 @@ impl ConsistentChooseKHasher {
 
     // The k samples of 0..n, in the first k places: refused where n is above the limit, k above n, or the list too short.
     pub fn new_with_k(state: u64, n: u64, k: u64, list: &mut [u64]) -> Result<Self, Refusal>
-        ensures { after_new (answer_of result) list.new ≡ new_with_k_call state n k list.old }
+        ensures { after (answer_of result) list.new ≡ new_with_k_call state n k list.old }
     {
-        if Self::N_LIMIT < n {
-            return Err(Refusal::NAboveLimit);
-        }
-        if n < k {
-            return Err(Refusal::KAboveN);
-        }
+        answers::test_sizes(Self::N_LIMIT, 0, k, n)?;
         if (list.len() as u64) < k {
             return Err(Refusal::ShortMemory);
         }
@@ -74,7 +69,7 @@ impl ConsistentChooseKHasher {
     fn grow(&mut self, list: &mut [u64]) -> Result<usize, Refusal>
         requires tested { tests self.old list.old ≡ result tt }
         requires more { self.old.k ≢ self.old.n }
-        ensures { after (answer_of result) self.new list.new ≡ grown self.old list.old }
+        ensures { after (answer_of result) (chooser_state self.new list.new) ≡ grown self.old list.old }
     {
         let k = self.k as usize;
         if list.len() <= k {
@@ -87,8 +82,8 @@ impl ConsistentChooseKHasher {
 
     // One sample more, and the index where it came in: refused where all n are there, or the list has no place for it.
     pub fn grow_k(&mut self, list: &mut [u64]) -> Result<u64, Refusal>
-        ensures answer { after (answer_of result) self.new list.new ≡ grow_call self.old list.old }
-        ensures consistent { Consistent self.old list.old (after (answer_of result) self.new list.new) }
+        ensures answer { after (answer_of result) (chooser_state self.new list.new) ≡ grow_call self.old list.old }
+        ensures consistent { Consistent self.old list.old (after (answer_of result) (chooser_state self.new list.new)) }
     {
         self.test(list)?;
         if self.k == self.n {
@@ -99,8 +94,8 @@ impl ConsistentChooseKHasher {
 
     // The next number of the choice order, none where all n are there: refused where the list has no place for it.
     pub fn next(&mut self, list: &mut [u64]) -> Result<Option<u64>, Refusal>
-        ensures answer { after (answer_of_option result) self.new list.new ≡ next_call self.old list.old }
-        ensures consistent_next { ConsistentNext self.old list.old (after (answer_of_option result) self.new list.new) }
+        ensures answer { after (answer_of_option result) (chooser_state self.new list.new) ≡ next_call self.old list.old }
+        ensures consistent_next { ConsistentNext self.old list.old (after (answer_of_option result) (chooser_state self.new list.new)) }
     {
         self.test(list)?;
         if self.k == self.n {
@@ -112,8 +107,8 @@ impl ConsistentChooseKHasher {
 
     // n becomes the last sample, and the answer is the index where another came in: refused where no smaller n has k samples.
     pub fn shrink_n(&mut self, list: &mut [u64]) -> Result<u64, Refusal>
-        ensures answer { after (answer_of result) self.new list.new ≡ shrink_call self.old list.old }
-        ensures consistent { Consistent self.old list.old (after (answer_of result) self.new list.new) }
+        ensures answer { after (answer_of result) (chooser_state self.new list.new) ≡ shrink_call self.old list.old }
+        ensures consistent { Consistent self.old list.old (after (answer_of result) (chooser_state self.new list.new)) }
     {
         self.test(list)?;
         let k = self.k as usize;

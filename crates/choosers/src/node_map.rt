@@ -1,9 +1,10 @@
 // The slot map of document 01: a slot count, and a byte a slot in a table that is lent to each call.
 ghost use Rattle.std.specs.Prelude.{◌≡◌, min, length, take, is_ok, IfOk, IfErr};
 ghost use Rattle.choosers.specs.Slots.{state_of};
+ghost use Rattle.answers.specs.Answers.{after};
 ghost use Rattle.answers.specs.Refusals.{answer_of, optional};
 ghost use Rattle.answers.specs.declared.Refusal.TheVariants.{Misfit};
-ghost use Rattle.choosers.specs.SlotCalls.{map_of, slot_limit, fitting, after, add_call, remove_call, len_call, is_empty_call, is_active_call, look_up, get_call, ScratchFree, ScratchAfter};
+ghost use Rattle.choosers.specs.SlotCalls.{slot_state, map_of, slot_limit, fitting, add_call, remove_call, len_call, is_empty_call, is_active_call, look_up, get_call, ScratchFree, ScratchAfter};
 
 use crate::{lookups, tables};
 use answers::Refusal;
@@ -76,7 +77,7 @@ impl ConsistentNodeMap {
 
     // The lowest deleted slot, else a new one: refused where there is neither.
     pub fn add(&mut self, table: &mut [u8]) -> Result<u32, Refusal>
-        ensures { after (answer_of result) self.new table.new ≡ add_call self.old table.old }
+        ensures { after (answer_of result) (slot_state self.new table.new) ≡ add_call self.old table.old }
     {
         if let Some(x) = tables::lowest(self.slots(table)?) {
             table[x] = 1;
@@ -94,7 +95,7 @@ impl ConsistentNodeMap {
 
     // Takes a slot out: refused where it is not active.
     pub fn remove(&mut self, table: &mut [u8], slot: u32) -> Result<(), Refusal>
-        ensures { after (answer_of result) self.new table.new ≡ remove_call self.old table.old slot }
+        ensures { after (answer_of result) (slot_state self.new table.new) ≡ remove_call self.old table.old slot }
     {
         if self.slots(table)?.get(slot as usize) != Some(&1) {
             return Err(Refusal::SlotNotActive);

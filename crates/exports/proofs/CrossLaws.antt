@@ -21,7 +21,7 @@ use Rattle.exports.specs.Reservoirs.{words_of, opened_as, record_of, coded_excha
 
 -- ---- new
 
-pub new_short : (k n key : ℕ) (l ws : List ℕ) (r w : ℕ) → r ≡ 2 ^ 63 + w → w ≡ short_refusal k n → length ws < 6 → crossed r ws l ≡ new_crossed k n key l ws
+pub new_short : (k n key : ℕ) (l ws : List ℕ) (r w : ℕ) → r ≡ 2 ^ 63 + w → w ≡ short_refusal (2 ^ 30) 1 k n → length ws < 6 → crossed r ws l ≡ new_crossed k n key l ws
 unfolding new_crossed
 new_short k n key l ws r w e s h = rw (e, s, lt-ltb (length ws) 6 h)
 

@@ -13,7 +13,7 @@ use Rattle.answers.specs.Refusals.{answer_of_option}
 use Rattle.answers.specs.Answers.{result, refusal}
 use Rattle.hashes.specs.Hashes.{feed}
 use Rattle.hashes.specs.Calls.{limited}
-use Rattle.answers.specs.Steps.{Step, stepped_to}
+use Rattle.answers.specs.Steps.{Step, after}
 use Rattle.answers.proofs.Turns.{Turn, ended, gave}
 use Rattle.hashes.proofs.CallLaws.{limited_in, limited_out, limited_says, limited_refuses}
 use Rattle.exports.specs.Coded.{fed_all, digest, coded_number}
@@ -25,34 +25,34 @@ module _ {W : Type 0} {step : W → Step W} {rest : W → List ℕ} {good : W �
     pub same : fed_all (feed d x) (rest v) ≡ fed_all d (rest w)
     pub less : length (rest v) < length (rest w)
 
-  pub fed : (d x : ℕ) (v w : W) → good w → stepped_to (result (some x)) v ≡ step w → Fed d x v w
+  pub fed : (d x : ℕ) (v w : W) → good w → after (result (some x)) v ≡ step w → Fed d x v w
   fed d x v w g p = go (turn w g)
     where
       go : Turn step rest good w → Fed d x v w
-      go (ended said stays nothing empty) = let f = ap (λ (t : Step W). t.said) p in let z : ◌≡◌ {A = ℕ} 0 1 = cc in absurd (omega arith)
+      go (ended said stays nothing empty) = let f = ap (λ (t : Step W). t.answer) p in let z : ◌≡◌ {A = ℕ} 0 1 = cc in absurd (omega arith)
       go (gave y said more splits) =
-          let f = ap (λ (t : Step W). t.said) p in
+          let f = ap (λ (t : Step W). t.answer) p in
           let q : y ≡ x = cc in
-          let v' : (step w).walk ≡ v = ap (λ (t : Step W). t.walk) (sym p) in
+          let v' : (step w).left ≡ v = ap (λ (t : Step W). t.left) (sym p) in
           let s : rest w ≡ x ∷ rest v = rw (q, v') at splits in
           record { goes_on = rw v' at more; same = ap (fed_all d) (sym s); less = rw s (omega arith) }
 
   -- it gave none: nothing was left
-  pub fed_all_of : (v w : W) → good w → stepped_to (result none) v ≡ step w → rest w ≡ []
+  pub fed_all_of : (v w : W) → good w → after (result none) v ≡ step w → rest w ≡ []
   fed_all_of v w g p = go (turn w g)
     where
       go : Turn step rest good w → rest w ≡ []
       go (ended is stays nothing empty) = empty
-      go (gave y is more splits) = let f = ap (λ (t : Step W). t.said) p in let z : ◌≡◌ {A = ℕ} 0 1 = cc in absurd (omega arith)
+      go (gave y is more splits) = let f = ap (λ (t : Step W). t.answer) p in let z : ◌≡◌ {A = ℕ} 0 1 = cc in absurd (omega arith)
 
   -- it is not refused
-  pub fed_ok : (said : Result (rust.Option ℕ) Refusal) (v w : W) → good w → stepped_to (answer_of_option said) v ≡ step w → is_ok said ≡ true
+  pub fed_ok : (said : Result (rust.Option ℕ) Refusal) (v w : W) → good w → after (answer_of_option said) v ≡ step w → is_ok said ≡ true
   fed_ok (Ok x) v w g p = refl
   fed_ok (Err why) v w g p = go (turn w g)
     where
       go : {A : Type 0} → Turn step rest good w → A
-      go (ended is stays nothing empty) = let f = ap (λ (t : Step W). t.said) p in let z : ◌≡◌ {A = ℕ} 0 1 = cc in absurd (omega arith)
-      go (gave y is more splits) = let f = ap (λ (t : Step W). t.said) p in let z : ◌≡◌ {A = ℕ} 0 1 = cc in absurd (omega arith)
+      go (ended is stays nothing empty) = let f = ap (λ (t : Step W). t.answer) p in let z : ◌≡◌ {A = ℕ} 0 1 = cc in absurd (omega arith)
+      go (gave y is more splits) = let f = ap (λ (t : Step W). t.answer) p in let z : ◌≡◌ {A = ℕ} 0 1 = cc in absurd (omega arith)
 
 -- ---- the answer of a call that makes a walk and feeds it, over any walk: xs n is what it gives
 

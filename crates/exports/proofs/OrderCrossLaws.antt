@@ -23,7 +23,7 @@ use Rattle.orders.specs.Orders.{P}
 use Rattle.orders.specs.OrderCalls.{new_call, step, next_call}
 use Rattle.exports.specs.InnerRecords.{made_over}
 use Rattle.exports.specs.Coded.{coded_done, coded_hash, coded_number, fed_all, digest}
-use Rattle.exports.specs.Crossings.{crossed_one, short_of}
+use Rattle.exports.specs.Crossings.{crossed_one, short_refusal}
 use Rattle.exports.specs.Orders.{order_words, order_as, started_as, new_order_crossed, next_order_crossed, order_digest}
 
 -- ---- the words
@@ -42,7 +42,7 @@ order_stored o ws cs h e f =
 
 -- ---- new
 
-pub new_short : (n key : ℕ) (ws : List ℕ) (r w : ℕ) → r ≡ 2 ^ 63 + w → w ≡ short_of (2 ^ 30) 0 n → length ws < 18 → crossed_one r ws ≡ new_order_crossed n key ws
+pub new_short : (n key : ℕ) (ws : List ℕ) (r w : ℕ) → r ≡ 2 ^ 63 + w → w ≡ short_refusal (2 ^ 30) 0 0 n → length ws < 18 → crossed_one r ws ≡ new_order_crossed n key ws
 unfolding new_order_crossed
 new_short n key ws r w e s h = rw (e, s, lt-ltb (length ws) 18 h)
 
@@ -61,7 +61,7 @@ pub next_short : (ws : List ℕ) (r : ℕ) → r ≡ 2 ^ 63 + 4 → length ws < 
 unfolding next_order_crossed
 next_short ws r e h = rw (e, lt-ltb (length ws) 18 h)
 
-pub next_crosses : (ws ws' : List ℕ) (g : Result (rust.Option ℕ) Refusal) (v : ConsistentPermutation) (x : ℕ) → step (answer_of_option g) v ≡ next_call (order_as ws)
+pub next_crosses : (ws ws' : List ℕ) (g : Result (rust.Option ℕ) Refusal) (v : ConsistentPermutation) (x : ℕ) → after (answer_of_option g) v ≡ next_call (order_as ws)
     → ws' ≡ cond (is_ok g) (written (order_words v) ws) ws → x ≡ coded_hash (answer_of_option g) → 18 ≤ length ws → crossed_one x ws' ≡ next_order_crossed ws
 unfolding next_order_crossed
 next_crosses ws ws' (Ok y) v x e w c h = rw (le-ltb (length ws) 18 h, ← e, w, c)

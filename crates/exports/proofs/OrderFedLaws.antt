@@ -57,7 +57,7 @@ feeding_new key n count h =
     record { going = going_new key n h; rest = rw e (ap (λ xs. fed_all 0 (take count xs)) (rest_new key n h)) }
 
 module _ (key n count i d : ℕ) (o : ConsistentPermutation) (f : Feeding key n count i d o) where
-  turned : i < count → Turn next_call rest_of Going o → Feeding key n count (suc i) (fed_with d (next_call o).said) (next_call o).walk
+  turned : i < count → Turn next_call rest_of Going o → Feeding key n count (suc i) (fed_with d (next_call o).answer) (next_call o).left
   turned h (ended said stays nothing empty) =
       record { going = stays; rest = rw (said, nothing, take-nil {A = ℕ} (count - suc i)) (rw (empty, take-nil {A = ℕ} (count - i)) at f.rest) }
   turned h (gave x said more splits) =
@@ -65,7 +65,7 @@ module _ (key n count i d : ℕ) (o : ConsistentPermutation) (f : Feeding key n 
       record { going = more; rest = rw said (rw (splits, e) at f.rest) }
 
   -- a call that said g and left v, and the state e that it fed
-  pub feeding_turn : (e : ℕ) (v : ConsistentPermutation) (g : Answer (Option ℕ)) → i < count → step g v ≡ next_call o → e ≡ fed_with d g → Feeding key n count (i + 1) e v
+  pub feeding_turn : (e : ℕ) (v : ConsistentPermutation) (g : Answer (Option ℕ)) → i < count → after g v ≡ next_call o → e ≡ fed_with d g → Feeding key n count (i + 1) e v
   feeding_turn e v g h p q =
       let t = turned h (next_turn o f.going) in rw (add-one i, q) (rw (← p) at t)
 

@@ -28,7 +28,7 @@ use Rattle.choosers.specs.SlotCalls as SlotCalls
 use Rattle.choosers.specs.RefusedBy as lists
 use Rattle.choosers.proofs.RefusedLaws as choosers
 use Rattle.exports.specs.Coded.{layer_xors, coded_hash, coded_number, coded_done, falling_digest, rising_digest}
-use Rattle.exports.specs.Crossings.{Crossed, crossed, CrossedOne, crossed_one, short_of, words_after}
+use Rattle.exports.specs.Crossings.{Crossed, crossed, CrossedOne, crossed_one, short_refusal, words_after}
 use Rattle.exports.specs.Orders as Order
 use Rattle.exports.specs.Reservoirs as Reservoir
 use Rattle.exports.specs.Chooser as Chooser
@@ -69,7 +69,7 @@ module _ (ws : List ℕ) where
   started (refusal w) a = (refl, (has_within order_refusals order_new_refusals refl w a, refl))
   started (result o) a = (refl, tt)
 
-  pub order_new_refuses : (n key : ℕ) → let t = said_else (short_of (2 ^ 30) 0 n) 18 ws (OrderCalls.new_call n key) in
+  pub order_new_refuses : (n key : ℕ) → let t = said_else (short_refusal (2 ^ 30) 0 0 n) 18 ws (OrderCalls.new_call n key) in
       let a = Order.new_order_crossed n key ws in Crosses coded_done order_new_refusals t a.answer (crossed_one a.answer ws) a
   unfolding Order.new_order_crossed has same
   order_new_refuses n key =
@@ -82,7 +82,7 @@ module _ (ws : List ℕ) where
   stepped (refusal c) w s = (refl, (s.0, refl))
   stepped (result o) w s = (refl, tt)
 
-  pub order_next_refuses : let t = said_by 18 ws (OrderCalls.next_call (Order.order_as ws)).said in
+  pub order_next_refuses : let t = said_by 18 ws (OrderCalls.next_call (Order.order_as ws)).answer in
       let a = Order.next_order_crossed ws in Crosses coded_hash order_next_refusals t a.answer (crossed_one a.answer ws) a
   unfolding Order.next_order_crossed
   order_next_refuses =
@@ -90,7 +90,7 @@ module _ (ws : List ℕ) where
       let s = OrderCalls.next_call o in
       by_words (OneSpared coded_hash order_next_refusals) (ltb (length ws) 18)
       (refl, (four _, refl))
-      (stepped s.said s.walk (first_four _ s.said o s.walk (orders.order_next_refuses o)))
+      (stepped s.answer s.left (first_four _ s.answer o s.left (orders.order_next_refuses o)))
 
 -- ---- reservoirs and choosers
 
@@ -111,7 +111,7 @@ module _ (ws l : List ℕ) where
   opened (refusal c) l' s = (refl, (s.0, (λ i. crossed (2 ^ 63 + c) ws (s.1 i))))
   opened (result r) l' s = (refl, tt)
 
-  pub reservoir_new_refuses : (k n key : ℕ) → let t = said_else (ReservoirCalls.short_refusal k n) 6 ws (ReservoirCalls.open_call k n key l).answer in
+  pub reservoir_new_refuses : (k n key : ℕ) → let t = said_else (short_refusal (2 ^ 30) 1 k n) 6 ws (ReservoirCalls.open_call k n key l).answer in
       let a = Reservoir.new_crossed k n key l ws in Crosses coded_done open_refusals t a.answer (crossed a.answer ws l) a
   unfolding Reservoir.new_crossed
   reservoir_new_refuses k n key =
@@ -153,7 +153,7 @@ module _ (ws l : List ℕ) where
   made (refusal c) l' s = (refl, (s.0, (λ i. crossed (2 ^ 63 + c) ws (s.1 i))))
   made (result r) l' s = (refl, tt)
 
-  pub chooser_with_k_refuses : (s n k : ℕ) → let t = said_else (short_of (2 ^ 62) k n) 3 ws (ChooserCalls.new_with_k_call s n k l).answer in
+  pub chooser_with_k_refuses : (s n k : ℕ) → let t = said_else (short_refusal (2 ^ 62) 0 k n) 3 ws (ChooserCalls.new_with_k_call s n k l).answer in
       let a = Chooser.new_with_k_crossed s n k l ws in Crosses coded_done lists.with_k_refusals t a.answer (crossed a.answer ws l) a
   unfolding Chooser.new_with_k_crossed
   chooser_with_k_refuses s n k =
@@ -193,7 +193,7 @@ module _ (ws : List ℕ) where
   chooser_made (refusal w) a = (refl, (has_within lists.chooser_refusals chooser_new_refusals refl w a, refl))
   chooser_made (result o) a = (refl, tt)
 
-  pub chooser_new_refuses : (s n : ℕ) → let t = said_else (short_of (2 ^ 62) 0 n) 3 ws (ChooserCalls.new_call s n) in
+  pub chooser_new_refuses : (s n : ℕ) → let t = said_else (short_refusal (2 ^ 62) 0 0 n) 3 ws (ChooserCalls.new_call s n) in
       let a = Chooser.new_crossed s n ws in Crosses coded_done chooser_new_refusals t a.answer (crossed_one a.answer ws) a
   unfolding Chooser.new_crossed has same
   chooser_new_refuses s n =

@@ -149,7 +149,7 @@ module _ (key k n : ℕ) (x : Lent) (o : OpenedIn key k n x) where
   unfolding open_crossed
   opens_in =
       by_below (length o.words) 7
-      (λ l. let e : crossed 0 x.words x.list ≡ crossed (2 ^ 63 + short_refusal k n) o.words o.list = rw (lt-ltb (length o.words) 7 l) at o.promise in
+      (λ l. let e : crossed 0 x.words x.list ≡ crossed (2 ^ 63 + short_refusal (2 ^ 30) 1 k n) o.words o.list = rw (lt-ltb (length o.words) 7 l) at o.promise in
       absurd (omega (arith, ap (λ (z : Crossed). z.answer) e)))
       (λ h. opens_by h opened.answer refl (rw (le-ltb (length o.words) 7 h) at o.promise))
 

@@ -39,7 +39,7 @@ module _ (ws l : List ℕ) where
   round_opened (refusal c) l' s = (refl, (s.0, (λ i. crossed (2 ^ 63 + c) ws (s.1 i))))
   round_opened (result r) l' s = (refl, tt)
 
-  pub round_open_refuses : (key k n : ℕ) → let t = said_else (ReservoirCalls.short_refusal k n) 7 ws (open_call key k n l).answer in
+  pub round_open_refuses : (key k n : ℕ) → let t = said_else (short_refusal (2 ^ 30) 1 k n) 7 ws (open_call key k n l).answer in
       let a = Round.open_crossed key k n l ws in Crosses coded_done called.open_refusals t a.answer (crossed a.answer ws l) a
   unfolding Round.open_crossed
   round_open_refuses key k n =

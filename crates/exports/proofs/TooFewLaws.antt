@@ -15,7 +15,7 @@ use Rattle.lists.proofs.Tests.{by_cond}
 use Rattle.lists.proofs.Having.{has_head, has_more}
 use Rattle.choosers.specs.RefusedBy as lists
 use Rattle.exports.specs.Coded.{truth}
-use Rattle.exports.specs.Crossings.{crossed, short_of, words_after}
+use Rattle.exports.specs.Crossings.{crossed, short_refusal, words_after}
 use Rattle.exports.specs.Slots as Slots
 use Rattle.exports.specs.RefusedBy.{Crosses, said_by, words_refusals}
 
@@ -28,16 +28,15 @@ pub four : (vs : List ℕ) → has 4 (4 ∷ vs) ≡ true
 four vs = has_head 4 vs
 
 -- 1 or 4 where a record is made without a k
-pub short_among : (limit n : ℕ) (ws : List ℕ) → has 1 ws ≡ true → has 4 ws ≡ true → has (short_of limit 0 n) ws ≡ true
-unfolding short_of
+pub short_among : (limit n : ℕ) (ws : List ℕ) → has 1 ws ≡ true → has 4 ws ≡ true → has (short_refusal limit 0 0 n) ws ≡ true
 short_among limit n ws one four =
     by_cond Is (ltb limit n) _ _ (λ y. one) (λ m. by_cond Is (ltb n 0) _ _ (λ y. absurd (omega (arith, ltb-true n 0 y))) (λ m. four))
   where
     Is : ℕ → Type 0
     Is w = has w ws ≡ true
 
-pub short_with_k : (n k : ℕ) → has (short_of (2 ^ 62) k n) lists.with_k_refusals ≡ true
-unfolding short_of has same
+pub short_with_k : (n k : ℕ) → has (short_refusal (2 ^ 62) 0 k n) lists.with_k_refusals ≡ true
+unfolding has same
 short_with_k n k = by_cond Is (ltb (2 ^ 62) n) _ _ (λ y. refl) (λ m. by_cond Is (ltb n k) _ _ (λ y. refl) (λ m. refl))
   where
     Is : ℕ → Type 0

@@ -6,7 +6,7 @@ use Rattle.lists.specs.Lists.{written}
 use Rattle.choosers.specs.declared.choose_k.ConsistentChooseKHasher.{ConsistentChooseKHasher}
 use Rattle.choosers.specs.ChooserCalls.{chooser_of, After, fitting, new_call, new_with_k_call, grow_call, next_call, shrink_call}
 use Rattle.exports.specs.Coded.{truth, coded_done, coded_number, coded_hash}
-use Rattle.exports.specs.Crossings.{Crossed, crossed, CrossedOne, crossed_one, enough, enough_else, short_of, words_after}
+use Rattle.exports.specs.Crossings.{Crossed, crossed, CrossedOne, crossed_one, enough, enough_else, short_refusal, words_after}
 
 -- the state, n and k
 abbrev pub chooser_words : ConsistentChooseKHasher → List ℕ
@@ -25,12 +25,12 @@ words_made ws (refusal w) = ws
 unfoldable pub new_crossed : ℕ → ℕ → List ℕ → CrossedOne
 new_crossed s n ws =
     let t = new_call s n in
-    enough_else (short_of (2 ^ 62) 0 n) 3 ws (λ a. crossed_one a ws) (crossed_one (coded_done t) (words_made ws t))
+    enough_else (short_refusal (2 ^ 62) 0 0 n) 3 ws (λ a. crossed_one a ws) (crossed_one (coded_done t) (words_made ws t))
 
 unfoldable pub new_with_k_crossed : ℕ → ℕ → ℕ → List ℕ → List ℕ → Crossed
 new_with_k_crossed s n k l ws =
     let m = new_with_k_call s n k l in
-    enough_else (short_of (2 ^ 62) k n) 3 ws (λ a. crossed a ws l) (crossed (coded_done m.answer) (words_made ws m.answer) m.list)
+    enough_else (short_refusal (2 ^ 62) 0 k n) 3 ws (λ a. crossed a ws l) (crossed (coded_done m.answer) (words_made ws m.answer) m.list)
 
 -- ---- grow_k, next and shrink_n
 

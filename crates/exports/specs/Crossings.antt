@@ -29,10 +29,6 @@ enough_else w c ws unchanged a = cond (ltb (length ws) c) (unchanged (2 ^ 63 + w
 abbrev pub enough : {A : Type 0} → ℕ → List ℕ → (ℕ → A) → A → A
 enough c ws unchanged a = enough_else 4 c ws unchanged a
 
--- "Order: .. 1, 2, 3, .. 4": the refusal of a call that makes a record of k of n, for which the words are too few
-unfoldable pub short_of : ℕ → ℕ → ℕ → ℕ
-short_of limit k n = cond (ltb limit n) 1 (cond (ltb n k) 3 4)
-
 -- the words after a call: of the record that is there after it; a refusal leaves them
 abbrev pub words_after : {A : Type 0} → List ℕ → Answer A → List ℕ → List ℕ
 words_after ws (result x) rs = written rs ws

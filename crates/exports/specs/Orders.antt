@@ -8,7 +8,7 @@ use Rattle.orders.specs.declared.consistent_permutation.ConsistentPermutation.{C
 use Rattle.orders.specs.Orders.{P}
 use Rattle.orders.specs.OrderCalls.{order_of, key_of, new_call, next_call}
 use Rattle.exports.specs.Coded.{coded_hash, digest}
-use Rattle.exports.specs.Crossings.{CrossedOne, crossed_one, enough, enough_else, short_of}
+use Rattle.exports.specs.Crossings.{CrossedOne, crossed_one, enough, enough_else, short_refusal}
 
 -- the key's low and high 32 bits, n, and the fifteen counters
 abbrev pub order_words : ConsistentPermutation → List ℕ
@@ -23,7 +23,7 @@ started_as ws (result o) = crossed_one 0 (written (order_words o) ws)
 started_as ws (refusal c) = crossed_one (2 ^ 63 + c) ws
 
 unfoldable pub new_order_crossed : ℕ → ℕ → List ℕ → CrossedOne
-new_order_crossed n key ws = enough_else (short_of (2 ^ 30) 0 n) 18 ws (λ a. crossed_one a ws) (started_as ws (new_call n key))
+new_order_crossed n key ws = enough_else (short_refusal (2 ^ 30) 0 0 n) 18 ws (λ a. crossed_one a ws) (started_as ws (new_call n key))
 
 abbrev pub stepped_as : List ℕ → Answer (Option ℕ) → ConsistentPermutation → CrossedOne
 stepped_as ws (result o) w = crossed_one (coded_hash (result o)) (written (order_words w) ws)
@@ -32,7 +32,7 @@ stepped_as ws (refusal c) w = crossed_one (2 ^ 63 + c) ws
 unfoldable pub next_order_crossed : List ℕ → CrossedOne
 next_order_crossed ws =
     let s = next_call (order_as ws) in
-    enough 18 ws (λ a. crossed_one a ws) (stepped_as ws s.said s.walk)
+    enough 18 ws (λ a. crossed_one a ws) (stepped_as ws s.answer s.left)
 
 -- ---- the first numbers of an order, as one number; 1 for n above 2^30
 

@@ -32,7 +32,7 @@ opened_as ws (refusal c) l = crossed (2 ^ 63 + c) ws l
 unfoldable pub new_crossed : ℕ → ℕ → ℕ → List ℕ → List ℕ → Crossed
 new_crossed k n key l ws =
     let o = open_call k n key l in
-    enough_else (short_refusal k n) 6 ws (λ a. crossed a ws l) (opened_as ws o.answer o.list)
+    enough_else (short_refusal (2 ^ 30) 1 k n) 6 ws (λ a. crossed a ws l) (opened_as ws o.answer o.list)
 
 unfoldable pub next_crossed : List ℕ → List ℕ → Crossed
 next_crossed ws l =

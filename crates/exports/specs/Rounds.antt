@@ -29,7 +29,7 @@ words_opened ws (refusal w) = ws
 unfoldable pub open_crossed : ℕ → ℕ → ℕ → List ℕ → List ℕ → Crossed
 open_crossed key k n l ws =
     let o = open_call key k n l in
-    enough_else (short_refusal k n) 7 ws (λ a. crossed a ws l) (crossed (coded_done o.answer) (words_opened ws o.answer) o.list)
+    enough_else (short_refusal (2 ^ 30) 1 k n) 7 ws (λ a. crossed a ws l) (crossed (coded_done o.answer) (words_opened ws o.answer) o.list)
 
 -- ---- admit, join and withdraw
 

@@ -108,7 +108,7 @@ pub fn perillajamb_next(state: u64, n: u64) -> u64
 
 // A step of the falling walk: the largest hash below n. After a hash the walk's n is that hash.
 pub fn perillajamb_falling_next(state: u64, n: u64) -> u64
-    ensures { result ≡ coded_hash (fall (record { state = state; n = n })).said }
+    ensures { result ≡ coded_hash (fall (record { state = state; n = n })).answer }
 {
     let mut walk = ConsistentHashRevIterator { state, n };
     parts::hash(walk.next())
@@ -116,7 +116,7 @@ pub fn perillajamb_falling_next(state: u64, n: u64) -> u64
 
 // A step of the rising walk: the smallest hash of `low` or more. From n up, `low` is n first; after a hash it is one above that.
 pub fn perillajamb_rising_next(state: u64, low: u64) -> u64
-    ensures { result ≡ coded_hash (rise (record { state = state; low = low })).said }
+    ensures { result ≡ coded_hash (rise (record { state = state; low = low })).answer }
 {
     let mut walk = ConsistentHashIterator { state, low };
     parts::hash(Ok(walk.next()))

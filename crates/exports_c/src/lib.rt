@@ -84,7 +84,7 @@ pub extern "C" fn perillajamb_next(state: u64, n: u64) -> u64
 // A step of the falling walk: the largest hash below n. After a hash the walk's n is that hash.
 #[unsafe(no_mangle)]
 pub extern "C" fn perillajamb_falling_next(state: u64, n: u64) -> u64
-    ensures { result ≡ coded_hash (fall (record { state = state; n = n })).said }
+    ensures { result ≡ coded_hash (fall (record { state = state; n = n })).answer }
 {
     exports::perillajamb_falling_next(state, n)
 }
@@ -92,7 +92,7 @@ pub extern "C" fn perillajamb_falling_next(state: u64, n: u64) -> u64
 // A step of the rising walk: the smallest hash of `low` or more. From n up, `low` is n first; after a hash it is one above that.
 #[unsafe(no_mangle)]
 pub extern "C" fn perillajamb_rising_next(state: u64, low: u64) -> u64
-    ensures { result ≡ coded_hash (rise (record { state = state; low = low })).said }
+    ensures { result ≡ coded_hash (rise (record { state = state; low = low })).answer }
 {
     exports::perillajamb_rising_next(state, low)
 }

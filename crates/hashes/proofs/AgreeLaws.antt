@@ -41,7 +41,7 @@ prev_back s n e =
     rw same at (prev_is_hash s (n + 1) (omega arith))
 
 -- what a step of the rising walk says is what it found
-said_found : (w : ConsistentHashIterator) (o : Option ℕ) → (go_on_above w o).said ≡ result o
+said_found : (w : ConsistentHashIterator) (o : Option ℕ) → (go_on_above w o).answer ≡ result o
 said_found w none = refl
 said_found w (some x) = refl
 

@@ -4,7 +4,7 @@ use mathlib.Core.Path.{◌≡◌}
 use Prim.Native.Nat.{ℕ, ◌^◌, ◌≤◌, ◌<◌}
 use native.Mathlib.Omega.{arith}
 use borrow.Author.Tests.{lt-ltb, le-ltb}
-use Rattle.answers.specs.Answers.{refusal, result}
+use Rattle.answers.specs.Answers.{refusal, result, after}
 use Rattle.lists.proofs.Tests.{by_below}
 use Rattle.hashes.specs.declared.ConsistentHashRevIterator.{ConsistentHashRevIterator}
 use Rattle.hashes.specs.Hashes.{prev}
@@ -36,6 +36,6 @@ pub fall_in : (w : ConsistentHashRevIterator) → w.n ≤ 2 ^ 62 → fall w ≡ 
 unfolding fall
 fall_in w h = rw (le-ltb (2 ^ 62) w.n h)
 
-pub fall_out : (w : ConsistentHashRevIterator) → 2 ^ 62 < w.n → fall w ≡ record { said = refusal 1; walk = w }
+pub fall_out : (w : ConsistentHashRevIterator) → 2 ^ 62 < w.n → fall w ≡ after (refusal 1) w
 unfolding fall
 fall_out w h = rw (lt-ltb (2 ^ 62) w.n h)

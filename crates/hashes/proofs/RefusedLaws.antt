@@ -38,12 +38,12 @@ pub rising_refuses : (n s : ℕ) → Among walk_refusals (rising_from n s)
 unfolding has same
 rising_refuses n s = limited_refuses walk_refusals n _ refl
 
-pub fall_refuses : (w : ConsistentHashRevIterator) → let s = fall w in Spares fall_refusals s.said w s.walk
+pub fall_refuses : (w : ConsistentHashRevIterator) → let s = fall w in Spares fall_refusals s.answer w s.left
 unfolding fall has same
 fall_refuses w = by_cond Spared (ltb (2 ^ 62) w.n) _ _ (λ above. (refl, refl)) (λ not. goes (prev w.state w.n))
   where
     Spared : Step ConsistentHashRevIterator → Type 0
-    Spared s = Spares fall_refusals s.said w s.walk
+    Spared s = Spares fall_refusals s.answer w s.left
 
     goes : (o : Option ℕ) → Spared (go_on_below w o)
     goes none = tt

@@ -28,10 +28,10 @@ use Rattle.hashes.proofs.LargestLaws.{hash_occurrences, no_hash_occurrences, pre
 use Rattle.hashes.proofs.CallLaws.{fall_in}
 
 abbrev said_of : {W : Type 0} → Step W → Answer (Option ℕ)
-said_of t = t.said
+said_of t = t.answer
 
 abbrev walk_of : {W : Type 0} → Step W → W
-walk_of t = t.walk
+walk_of t = t.left
 
 -- ---- falling
 
@@ -67,12 +67,12 @@ fall_turn w h = go (prev w.state w.n) refl
     go none e =
         let f : fall w ≡ go_on_below w none = fall_in w h ∙ ap (go_on_below w) e in
         let z : below_of w ≡ [] = below_open w.state w.n ∙ ap (down_from w.state) e in
-        let stays : (fall w).walk ≡ w = ap walk_of f in
+        let stays : (fall w).left ≡ w = ap walk_of f in
         ended (ap said_of f) (rw stays h) (ap below_of stays ∙ z) z
     go (some x) e =
         let f : fall w ≡ go_on_below w (some x) = fall_in w h ∙ ap (go_on_below w) e in
         gave x (ap said_of f) (rw f (omega (arith, some_le w.state w.n x e)))
-        (below_open w.state w.n ∙ ap (down_from w.state) e ∙ ap (λ (t : Step ConsistentHashRevIterator). x ∷ below_of t.walk) (sym f))
+        (below_open w.state w.n ∙ ap (down_from w.state) e ∙ ap (λ (t : Step ConsistentHashRevIterator). x ∷ below_of t.left) (sym f))
 
 -- "Falling ends with 0 (from n = 0 it gives none)": the walk from n gives every hash below n
 pub falling_walk : (k s n : ℕ) → n ≤ 2 ^ 62 → answers fall k (record { state = s; n = n }) ≡ one_by_one k (hashes_below s n)
@@ -138,11 +138,11 @@ rise_turn w h = go (smallest_from w.state w.low) refl
     go none e =
         let f : rise w ≡ go_on_above w none = ap (go_on_above w) e in
         let z : above_of w ≡ [] = from_open w.state w.low ∙ ap (up_from w.state) e in
-        ended (ap said_of f) tt (ap (λ (t : Step ConsistentHashIterator). above_of t.walk) f ∙ z) z
+        ended (ap said_of f) tt (ap (λ (t : Step ConsistentHashIterator). above_of t.left) f ∙ z) z
     go (some x) e =
         let f : rise w ≡ go_on_above w (some x) = ap (go_on_above w) e in
         gave x (ap said_of f) tt
-        (from_open w.state w.low ∙ ap (up_from w.state) e ∙ ap (λ (t : Step ConsistentHashIterator). x ∷ above_of t.walk) (sym f))
+        (from_open w.state w.low ∙ ap (up_from w.state) e ∙ ap (λ (t : Step ConsistentHashIterator). x ∷ above_of t.left) (sym f))
 
 -- the walk from its `low` gives every hash from there up
 pub rising_walk : (k s m : ℕ) → answers rise k (record { state = s; low = m }) ≡ one_by_one k (hashes_from s m)

@@ -10,7 +10,7 @@ use Rattle.hashes.specs.Walks.{rising_from, rise}
 
 -- what a walk that `new` made begins with: what its first `next` gives
 abbrev pub begins : Answer ConsistentHashIterator → Answer (Option ℕ)
-begins (result w) = (rise w).said
+begins (result w) = (rise w).answer
 begins (refusal c) = refusal c
 
 -- falling and rising agree at n

@@ -2,7 +2,7 @@
 -- Assumes nothing.
 use Rattle.std.specs.Prelude.{cond, List, ℕ, ◌+◌, ◌-◌, ◌^◌, ltb}
 use Rattle.std.proofs.Math.Option.{Option, none, some}
-use Rattle.answers.specs.Answers.{Answer, refusal, result}
+use Rattle.answers.specs.Answers.{Answer, result, after, refused}
 use Rattle.answers.specs.Steps.{Step}
 use Rattle.lists.specs.Lists.{keep, from, down}
 use Rattle.hashes.specs.declared.ConsistentHashRevIterator.{ConsistentHashRevIterator}
@@ -19,12 +19,12 @@ falling_from n s = limited n (record { state = s; n = n })
 
 -- after a hash the walk goes on below it; where there is none it stays
 abbrev pub go_on_below : ConsistentHashRevIterator → Option ℕ → Step ConsistentHashRevIterator
-go_on_below w none = record { said = result none; walk = w }
-go_on_below w (some x) = record { said = result (some x); walk = record { state = w.state; n = x } }
+go_on_below w none = after (result none) w
+go_on_below w (some x) = after (result (some x)) (record { state = w.state; n = x })
 
 -- any walk: the largest hash below its n. 1 for an n above 2^62.
 unfoldable pub fall : ConsistentHashRevIterator → Step ConsistentHashRevIterator
-fall w = cond (ltb (2 ^ 62) w.n) (record { said = refusal 1; walk = w }) (go_on_below w (prev w.state w.n))
+fall w = cond (ltb (2 ^ 62) w.n) (refused 1 w) (go_on_below w (prev w.state w.n))
 
 -- every hash of s below n, in falling order, each once
 unfoldable pub hashes_below : ℕ → ℕ → List ℕ
@@ -38,8 +38,8 @@ rising_from n s = limited n (record { state = s; low = n })
 
 -- after a hash the walk goes on above it; where there is none it stays
 abbrev pub go_on_above : ConsistentHashIterator → Option ℕ → Step ConsistentHashIterator
-go_on_above w none = record { said = result none; walk = w }
-go_on_above w (some x) = record { said = result (some x); walk = record { state = w.state; low = x + 1 } }
+go_on_above w none = after (result none) w
+go_on_above w (some x) = after (result (some x)) (record { state = w.state; low = x + 1 })
 
 -- any walk: the smallest hash of its `low` or more
 unfoldable pub rise : ConsistentHashIterator → Step ConsistentHashIterator

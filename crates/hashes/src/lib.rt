@@ -7,7 +7,7 @@ mod search;
 
 ghost use Rattle.std.specs.Prelude.{◌≡◌};
 ghost use Rattle.answers.specs.Answers as Answers;
-ghost use Rattle.answers.specs.Steps.{stepped_to};
+ghost use Rattle.answers.specs.Answers.{after};
 ghost use Rattle.answers.specs.Refusals.{answer_of, optional, answer_of_option};
 ghost use Rattle.hashes.specs.Hashes.{feed};
 ghost use Rattle.hashes.specs.Calls.{prev_call, next_call};
@@ -92,7 +92,7 @@ impl ConsistentHashRevIterator {
 
     // The next hash; refusal 1 for a walk whose n is above the limit.
     pub fn next(&mut self) -> Result<Option<u64>, Refusal>
-        ensures { stepped_to (answer_of_option result) self.new ≡ fall self.old }
+        ensures { after (answer_of_option result) self.new ≡ fall self.old }
     {
         if Self::N_LIMIT < self.n {
             return Err(Refusal::NAboveLimit);
@@ -129,7 +129,7 @@ impl ConsistentHashIterator {
 
     // The next hash.
     pub fn next(&mut self) -> Option<u64>
-        ensures { stepped_to (Answers.result (optional result)) self.new ≡ rise self.old }
+        ensures { after (Answers.result (optional result)) self.new ≡ rise self.old }
     {
         let x = search::smallest_from(self.state, self.low)?;
         self.low = x + 1;

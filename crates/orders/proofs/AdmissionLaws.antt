@@ -12,7 +12,7 @@ use borrow.Author.Tests.{lt-ltb, le-ltb, ltb-true, ltb-false}
 use lib.Dec.{ltb}
 use lib.ListN.{length, take}
 use lib.Seq.{length-take-le}
-use Rattle.answers.specs.Answers.{result}
+use Rattle.answers.specs.Answers.{result, After, after, refused}
 use Rattle.lists.specs.Lists.{keep, below, not_below, up_to, replace, standing, last, written, smallest, Exchanges}
 use Rattle.lists.proofs.Tests.{by_below}
 use Rattle.lists.proofs.Prefixes.{up_to_long}
@@ -23,7 +23,7 @@ use Rattle.lists.proofs.Searching.{by_first}
 use Rattle.orders.specs.declared.consistent_reservoir.ConsistentReservoir.{ConsistentReservoir}
 use Rattle.orders.specs.Orders.{P}
 use Rattle.orders.specs.Reservoirs.{incoming, outputs, up_to_zeros, grown, wider, due, kth, in_and_out, n_after}
-use Rattle.orders.specs.ReservoirCalls.{key_of, j_of, listed, sample, fitting, reservoir_of, After, after, refused, exchange_by, exchange, admit_at, admit_call}
+use Rattle.orders.specs.ReservoirCalls.{key_of, j_of, listed, sample, fitting, reservoir_of, exchange_by, exchange, admit_at, admit_call, reservoir_state, ReservoirState}
 use Rattle.orders.specs.Admissions.{ChangesBy, Kept, ends_at, Short, Admits}
 use Rattle.orders.proofs.LogLaws.{pow_up}
 use Rattle.orders.proofs.OrderLaws.{zero_top_lem, low_outputs}
@@ -62,11 +62,11 @@ module _ (r : ConsistentReservoir) (l : List ℕ) (k0 : 0 < r.k) (k_le : r.k ≤
     unfolding exchange_by last kth
     exchanged h =
         let u : ℕ = standing (below (suc v)) r.k xs (length xs - 1) in
-        let e : exchange r i xs l ≡ after (result (some (v, last xs))) (reservoir_of (key_of r) r.k (v + 1) i u) (written (take u xs) l) =
+        let e : exchange r i xs l ≡ after (result (some (v, last xs))) (reservoir_state (reservoir_of (key_of r) r.k (v + 1) i u) (written (take u xs) l)) =
         by_v ∙ rw (le-ltb (length l) u h) in
         let s : v + 1 ≤ 4 ^ suc i = omega (arith, c.small) in
         let t : take u xs ≡ held_at (key_of r) (suc i) r.k (v + 1) = rw (add-one v) c.list in
-        subst (λ (a : After (Option (ℕ × ℕ))). Admits r a) (sym e) (record {
+        subst (λ (a : After ReservoirState (Option (ℕ × ℕ))). Admits r a) (sym e) (record {
           answer_is = rw v_due (ap (λ (x : ℕ). result (some (v, x))) c.out);
           key_is = refl;
           k_is = refl;
@@ -174,7 +174,7 @@ module _ (r : ConsistentReservoir) (l : List ℕ) (s : Kept r l) (full : r.used 
 -- ---- admit
 
 -- a record that does not fit its list
-pub admit_unfit : (r : ConsistentReservoir) (l : List ℕ) → fitting r l ≡ false → admit_call r l ≡ refused 12 r l
+pub admit_unfit : (r : ConsistentReservoir) (l : List ℕ) → fitting r l ≡ false → admit_call r l ≡ refused 12 (reservoir_state r l)
 unfolding admit_call
 admit_unfit r l e = rw e
 
@@ -182,8 +182,8 @@ admit_unfit r l e = rw e
 pub admit_kept : (r : ConsistentReservoir) (l : List ℕ) → Kept r l → Short r l (admit_call r l) ⊎ Admits r (admit_call r l)
 unfolding admit_call
 admit_kept r l s =
-    subst (λ (b : Bool). Short r l (cond b (cond (ltb r.k r.used) (exchange r (j_of r) (listed r l) l) (admit_at r l (wider (key_of r) r.k (j_of r)))) (refused 12 r l))
-    ⊎ Admits r (cond b (cond (ltb r.k r.used) (exchange r (j_of r) (listed r l) l) (admit_at r l (wider (key_of r) r.k (j_of r)))) (refused 12 r l)))
+    subst (λ (b : Bool). Short r l (cond b (cond (ltb r.k r.used) (exchange r (j_of r) (listed r l) l) (admit_at r l (wider (key_of r) r.k (j_of r)))) (refused 12 (reservoir_state r l)))
+    ⊎ Admits r (cond b (cond (ltb r.k r.used) (exchange r (j_of r) (listed r l) l) (admit_at r l (wider (key_of r) r.k (j_of r)))) (refused 12 (reservoir_state r l))))
     (sym (fitting_kept r l s))
     (by_below r.k r.used
     (λ h. subst (λ (b : Bool). Short r l (cond b (exchange r (j_of r) (listed r l) l) (admit_at r l (wider (key_of r) r.k (j_of r))))

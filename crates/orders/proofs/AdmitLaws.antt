@@ -10,7 +10,7 @@ use native.Mathlib.Omega.{arith}
 use lib.ListN.{length, take, get_or, take-append-drop}
 use lib.Seq.{take-length, take-take, get_or-take, length-take-le}
 use borrow.Author.Tests.{lt-ltb, le-ltb, eq-eqb, ne_eqb}
-use Rattle.answers.specs.Answers.{result}
+use Rattle.answers.specs.Answers.{result, after, refused}
 use Rattle.lists.specs.Lists.{below, standing, last, written}
 use Rattle.lists.proofs.Standing.{standing_le, standing_same}
 use Rattle.layers.specs.Layer.{size}
@@ -18,7 +18,7 @@ use Rattle.orders.specs.declared.consistent_reservoir.ConsistentReservoir.{Consi
 use Rattle.orders.specs.declared.scans.Scan.{Scan}
 use Rattle.orders.specs.declared.scans.Wide.{Wide}
 use Rattle.orders.specs.Reservoirs.{outputs, grown, wider, incoming}
-use Rattle.orders.specs.ReservoirCalls.{key_of, j_of, listed, sample, fitting, reservoir_of, after, refused, exchange_by, exchange, admit_call, grow_to, grow_layer_call}
+use Rattle.orders.specs.ReservoirCalls.{key_of, j_of, listed, sample, fitting, reservoir_of, exchange_by, exchange, admit_call, grow_to, grow_layer_call, reservoir_state}
 use Rattle.orders.specs.InnerPasses.{low_of, rank_of, laid_of, scan_of, wide_of}
 use Rattle.orders.proofs.LogLaws.{size_in, pow_up}
 use Rattle.orders.proofs.AdmissionLaws.{zeros_at}
@@ -49,7 +49,7 @@ module _ (r : ConsistentReservoir) (l : List ℕ) (fit : fitting r l ≡ true) (
       (standing_same (below (v + 1)) (below (v + 1)) r.k (take (r.used - 1) l) l (r.used - 1) (λ i h. ap (below (v + 1)) (get_or-take (r.used - 1) l i 0 h)))
 
   pub here_done : (u : ℕ) → u ≡ standing (below (v + 1)) r.k l (r.used - 1)
-      → after (result (some (v, get_or l (r.used - 1) 0))) (reservoir_of (key_of r) r.k (v + 1) (j_of r) u) l ≡ exchange r (j_of r) (listed r l) l
+      → after (result (some (v, get_or l (r.used - 1) 0))) (reservoir_state (reservoir_of (key_of r) r.k (v + 1) (j_of r) u) l) ≡ exchange r (j_of r) (listed r l) l
   unfolding exchange exchange_by written last
   here_done u e =
       let z : standing (below (v + 1)) r.k (listed r l) (r.used - 1) ≡ u =
@@ -123,11 +123,11 @@ module _ (r : ConsistentReservoir) (w : Wide) (l : List ℕ)
         rw (is, inputs_is) (grow_standing r w.layer l fact p.1 above_low goes.high w.low v_from) in
         rw (v, m, t)
 
-    pub above_refused : length l < e → refused 4 r l ≡ exchange r w.layer (grown (key_of r) w.layer r.k (listed r l)) l
+    pub above_refused : length l < e → refused 4 (reservoir_state r l) ≡ exchange r w.layer (grown (key_of r) w.layer r.k (listed r l)) l
     unfolding exchange_by
     above_refused h = sym (above_is ∙ rw (lt-ltb (length l) e h))
 
-    pub above_done : e ≤ length l → after (result (some (w.low, get_or l (r.k - 1) 0))) (reservoir_of (key_of r) r.k (w.low + 1) w.layer e) (laid_of (key_of r) w.layer e l)
+    pub above_done : e ≤ length l → after (result (some (w.low, get_or l (r.k - 1) 0))) (reservoir_state (reservoir_of (key_of r) r.k (w.low + 1) w.layer e) (laid_of (key_of r) w.layer e l))
         ≡ exchange r w.layer (grown (key_of r) w.layer r.k (listed r l)) l
     unfolding exchange_by
     above_done h =
@@ -157,12 +157,12 @@ module _ (r : ConsistentReservoir) (l : List ℕ) (p : (fitting r l ≡ true) ×
   length_is = grow_length r (j_of r + 1) l raise_fact p.1 (omega (arith, p.2)) (omega arith) ∙ sym end_is
 
   pub raise_refused : length l < s.inputs
-      → refused 4 r l ≡ grow_to r (grown (key_of r) (j_of r + 1) r.k (listed r l)) l
+      → refused 4 (reservoir_state r l) ≡ grow_to r (grown (key_of r) (j_of r + 1) r.k (listed r l)) l
   unfolding grow_to
   raise_refused h = rw (length_is, lt-ltb (length l) s.inputs h)
 
   pub raise_done : s.inputs ≤ length l
-      → after (result tt) (reservoir_of (key_of r) r.k r.n (j_of r + 1) s.inputs) (laid_of (key_of r) (j_of r + 1) s.inputs l)
+      → after (result tt) (reservoir_state (reservoir_of (key_of r) r.k r.n (j_of r + 1) s.inputs) (laid_of (key_of r) (j_of r + 1) s.inputs l))
       ≡ grow_to r (grown (key_of r) (j_of r + 1) r.k (listed r l)) l
   unfolding grow_to
   raise_done h =
@@ -175,7 +175,7 @@ module _ (r : ConsistentReservoir) (l : List ℕ) (p : (fitting r l ≡ true) ×
 
 -- ---- the calls, by what their tests found
 
-pub admit_unfit : (r : ConsistentReservoir) (l : List ℕ) → fitting r l ≡ false → refused 12 r l ≡ admit_call r l
+pub admit_unfit : (r : ConsistentReservoir) (l : List ℕ) → fitting r l ≡ false → refused 12 (reservoir_state r l) ≡ admit_call r l
 unfolding admit_call
 admit_unfit r l e = rw e
 
@@ -184,7 +184,7 @@ unfolding admit_call
 admit_longer r l e h = rw (e, lt-ltb r.k r.used h)
 
 pub admit_none : (r : ConsistentReservoir) (l : List ℕ) → fitting r l ≡ true → r.used ≤ r.k → wider (key_of r) r.k (j_of r) ≡ none
-    → after (result none) (reservoir_of (key_of r) r.k r.n 14 r.used) l ≡ admit_call r l
+    → after (result none) (reservoir_state (reservoir_of (key_of r) r.k r.n 14 r.used) l) ≡ admit_call r l
 unfolding admit_call
 admit_none r l e h f = rw (e, le-ltb r.k r.used h, f)
 
@@ -193,15 +193,15 @@ pub admit_grown : (r : ConsistentReservoir) (l : List ℕ) (w : Wide) → fittin
 unfolding admit_call
 admit_grown r l w e h f = rw (e, le-ltb r.k r.used h, (found (key_of r) r.k (j_of r) w (fits_parts r l e).shape.j_low f).is)
 
-pub grow_unfit : (r : ConsistentReservoir) (l : List ℕ) → fitting r l ≡ false → refused 12 r l ≡ grow_layer_call r l
+pub grow_unfit : (r : ConsistentReservoir) (l : List ℕ) → fitting r l ≡ false → refused 12 (reservoir_state r l) ≡ grow_layer_call r l
 unfolding grow_layer_call
 grow_unfit r l e = rw e
 
-pub grow_seven : (r : ConsistentReservoir) (l : List ℕ) → fitting r l ≡ true → r.k < r.used → refused 7 r l ≡ grow_layer_call r l
+pub grow_seven : (r : ConsistentReservoir) (l : List ℕ) → fitting r l ≡ true → r.k < r.used → refused 7 (reservoir_state r l) ≡ grow_layer_call r l
 unfolding grow_layer_call
 grow_seven r l e h = rw (e, lt-ltb r.k r.used h)
 
-pub grow_eight : (r : ConsistentReservoir) (l : List ℕ) → fitting r l ≡ true → r.used ≤ r.k → j_of r ≡ 14 → refused 8 r l ≡ grow_layer_call r l
+pub grow_eight : (r : ConsistentReservoir) (l : List ℕ) → fitting r l ≡ true → r.used ≤ r.k → j_of r ≡ 14 → refused 8 (reservoir_state r l) ≡ grow_layer_call r l
 unfolding grow_layer_call
 grow_eight r l e h f = rw (e, le-ltb r.k r.used h, eq-eqb (j_of r) 14 f)
 

@@ -12,7 +12,7 @@ use native.Mathlib.Omega.{arith}
 use borrow.Author.Tests.{lt-ltb, le-ltb, ltb-true}
 use lib.Dec.{ltb}
 use lib.ListN.{length}
-use Rattle.answers.specs.Answers.{result}
+use Rattle.answers.specs.Answers.{result, After, after, refused}
 use Rattle.lists.specs.Lists.{below, up_to}
 use Rattle.lists.proofs.Tests.{by_below, by_cond}
 use Rattle.answers.proofs.AnswerLaws.{not_said, said_same}
@@ -21,7 +21,7 @@ use Rattle.lists.proofs.Searching.{by_first}
 use Rattle.orders.specs.declared.consistent_reservoir.ConsistentReservoir.{ConsistentReservoir}
 use Rattle.orders.specs.Orders.{layer_of}
 use Rattle.orders.specs.Reservoirs.{opening, outputs, up_to_zeros, grown, wider, held, due, kth}
-use Rattle.orders.specs.ReservoirCalls.{key_of, j_of, listed, reservoir_of, After, after, refused, exchange_by, exchange, admit_at, admit_call}
+use Rattle.orders.specs.ReservoirCalls.{key_of, j_of, listed, reservoir_of, exchange_by, exchange, admit_at, admit_call, ReservoirState, reservoir_state}
 use Rattle.orders.specs.Admissions.{Kept, Opened, ends_at, Short, Admits}
 use Rattle.orders.proofs.LogLaws.{pow_up, layer_fits, layer_least, layer_in}
 use Rattle.orders.proofs.HeldLaws.{held_at, Comes, comes, waits, grow_none}
@@ -120,9 +120,9 @@ module _ (r : ConsistentReservoir) (l : List ℕ) (s : Kept r l) where
 
 module _ (r : ConsistentReservoir) (l : List ℕ) where
   -- at layer i it is refused 4, or a number comes in
-  abbrev AtLayer : Option ℕ → After (Option (ℕ × ℕ)) → Type 0
-  AtLayer none a = a ≡ after (result none) (reservoir_of (key_of r) r.k r.n 14 r.used) l
-  AtLayer (some i) a = (a ≡ refused 4 r l) ⊎ ((p : ℕ × ℕ) × (a.answer ≡ result (some p)))
+  abbrev AtLayer : Option ℕ → After ReservoirState (Option (ℕ × ℕ)) → Type 0
+  AtLayer none a = a ≡ after (result none) (reservoir_state (reservoir_of (key_of r) r.k r.n 14 r.used) l)
+  AtLayer (some i) a = (a ≡ refused 4 (reservoir_state r l)) ⊎ ((p : ℕ × ℕ) × (a.answer ≡ result (some p)))
 
   exchange_at : (i : ℕ) (xs : List ℕ) → AtLayer (some i) (exchange r i xs l)
   unfolding exchange exchange_by
@@ -139,22 +139,22 @@ module _ (r : ConsistentReservoir) (l : List ℕ) where
   admit_at_layer : Kept r l → AtLayer (ends_at r) (admit_call r l)
   unfolding admit_call
   admit_at_layer s =
-      subst (λ (c : Bool). AtLayer (ends_at r) (cond c (cond (ltb r.k r.used) (exchange r (j_of r) (listed r l) l) (admit_at r l (wider (key_of r) r.k (j_of r)))) (refused 12 r l)))
+      subst (λ (c : Bool). AtLayer (ends_at r) (cond c (cond (ltb r.k r.used) (exchange r (j_of r) (listed r l) l) (admit_at r l (wider (key_of r) r.k (j_of r)))) (refused 12 (reservoir_state r l))))
       (sym (fitting_kept r l s)) (at_ends (ltb r.k r.used))
 
 -- What an admit says and leaves of a record that lists what an open lists: refused 4 exactly where a number v is due and the list is
 -- shorter than an open at v+1 asks.
-pub data AdmitAnew (r : ConsistentReservoir) (l : List ℕ) (b : Bool) (a : After (Option (ℕ × ℕ))) : Type 0 where
-  finds_short : (v : ℕ) → due (key_of r) r.k r.n ≡ some v → length l < length (opening (key_of r) r.k (suc v)) → a ≡ refused 4 r l → AdmitAnew r l b a
-  finds_none : due (key_of r) r.k r.n ≡ none → a ≡ after (result none) (reservoir_of (key_of r) r.k r.n 14 r.used) l → Anew a.reservoir a.list true → AdmitAnew r l b a
+pub data AdmitAnew (r : ConsistentReservoir) (l : List ℕ) (b : Bool) (a : After ReservoirState (Option (ℕ × ℕ))) : Type 0 where
+  finds_short : (v : ℕ) → due (key_of r) r.k r.n ≡ some v → length l < length (opening (key_of r) r.k (suc v)) → a ≡ refused 4 (reservoir_state r l) → AdmitAnew r l b a
+  finds_none : due (key_of r) r.k r.n ≡ none → a ≡ after (result none) (reservoir_state (reservoir_of (key_of r) r.k r.n 14 r.used) l) → Anew a.left.reservoir a.left.list true → AdmitAnew r l b a
   brings_in : (v : ℕ) → due (key_of r) r.k r.n ≡ some v → length (opening (key_of r) r.k (suc v)) ≤ length l → b ≡ false
-      → Admits r a → Anew a.reservoir a.list false → AdmitAnew r l b a
+      → Admits r a → Anew a.left.reservoir a.left.list false → AdmitAnew r l b a
 
 none_not_pair : (p : ℕ × ℕ) → none ≡ some p → ⊥
 none_not_pair p e = let z : true ≡ false = cc in true≢false z
 
 module _ (r : ConsistentReservoir) (l : List ℕ) (s : Kept r l) (b : Bool) (now : Anew r l b) where
-  abbrev a : After (Option (ℕ × ℕ))
+  abbrev a : After ReservoirState (Option (ℕ × ℕ))
   a = admit_call r l
 
   -- none is due
@@ -166,15 +166,15 @@ module _ (r : ConsistentReservoir) (l : List ℕ) (s : Kept r l) (b : Bool) (now
         (λ (h : Admits r a). h.answer_is ∙ rw d refl)
         (admit_kept r l s)
 
-    leaves_none : (o : Option ℕ) → AtLayer r l o a → a ≡ after (result none) (reservoir_of (key_of r) r.k r.n 14 r.used) l
+    leaves_none : (o : Option ℕ) → AtLayer r l o a → a ≡ after (result none) (reservoir_state (reservoir_of (key_of r) r.k r.n 14 r.used) l)
     leaves_none none e = e
-    leaves_none (some i) (inl e) = not_said 4 none (sym (ap (λ (z : After (Option (ℕ × ℕ))). z.answer) e) ∙ says_none)
+    leaves_none (some i) (inl e) = not_said 4 none (sym (ap (λ (z : After ReservoirState (Option (ℕ × ℕ))). z.answer) e) ∙ says_none)
     leaves_none (some i) (inr e) = absurd (none_not_pair e.0 (said_same none (some e.0) (sym says_none ∙ e.1)))
 
     none_due : AdmitAnew r l b a
     none_due =
         let e = leaves_none (ends_at r) (admit_at_layer r l s) in
-        finds_none d e (subst (λ (z : After (Option (ℕ × ℕ))). Anew z.reservoir z.list true) (sym e) (record { listed_is = now.listed_is; layer_is = refl; none_due = λ t. d }))
+        finds_none d e (subst (λ (z : After ReservoirState (Option (ℕ × ℕ))). Anew z.left.reservoir z.left.list true) (sym e) (record { listed_is = now.listed_is; layer_is = refl; none_due = λ t. d }))
 
   -- v is due
   module _ (v : ℕ) (d : due (key_of r) r.k r.n ≡ some v) where
@@ -186,22 +186,22 @@ module _ (r : ConsistentReservoir) (l : List ℕ) (s : Kept r l) (b : Bool) (now
     not_yet false f = refl
 
     -- the layer after it
-    layer_now : Admits r a → (o : Option ℕ) → ends_at r ≡ o → AtLayer r l o a → j_of a.reservoir ≡ layer_of (suc v)
+    layer_now : Admits r a → (o : Option ℕ) → ends_at r ≡ o → AtLayer r l o a → j_of a.left.reservoir ≡ layer_of (suc v)
     layer_now h none e q =
         absurd (none_not_pair (v, kth (key_of r) r.k r.n)
-        (said_same none (some (v, kth (key_of r) r.k r.n)) (sym (ap (λ (z : After (Option (ℕ × ℕ))). z.answer) q) ∙ h.answer_is ∙ rw d refl)))
+        (said_same none (some (v, kth (key_of r) r.k r.n)) (sym (ap (λ (z : After ReservoirState (Option (ℕ × ℕ))). z.answer) q) ∙ h.answer_is ∙ rw d refl)))
     layer_now h (some i) e q = h.layer_is ∙ rw e (ends_layer r l s b now v d i e)
 
-    lists_now : Admits r a → Anew a.reservoir a.list false
+    lists_now : Admits r a → Anew a.left.reservoir a.left.list false
     lists_now h =
-        let n : a.reservoir.n ≡ suc v = h.n_is ∙ rw d (add-one v) in
-        let j : j_of a.reservoir ≡ layer_of (suc v) = layer_now h (ends_at r) refl (admit_at_layer r l s) in
+        let n : a.left.reservoir.n ≡ suc v = h.n_is ∙ rw d (add-one v) in
+        let j : j_of a.left.reservoir ≡ layer_of (suc v) = layer_now h (ends_at r) refl (admit_at_layer r l s) in
         record {
           listed_is =
               h.kept.list_is
-              ∙ (λ i. held (key_of a.reservoir) (j i) a.reservoir.k (n i))
-              ∙ held_opening (key_of a.reservoir) a.reservoir.k (suc v) v_small
-              ∙ ap (opening (key_of a.reservoir) a.reservoir.k) (sym n);
+              ∙ (λ i. held (key_of a.left.reservoir) (j i) a.left.reservoir.k (n i))
+              ∙ held_opening (key_of a.left.reservoir) a.left.reservoir.k (suc v) v_small
+              ∙ ap (opening (key_of a.left.reservoir) a.left.reservoir.k) (sym n);
           layer_is = j ∙ ap layer_of (sym n);
           none_due = λ e. absurd (true≢false (sym e));
         }
@@ -209,9 +209,9 @@ module _ (r : ConsistentReservoir) (l : List ℕ) (s : Kept r l) (b : Bool) (now
     -- how many it lists then
     long_now : Admits r a → length (opening (key_of r) r.k (suc v)) ≤ length l
     long_now h =
-        let n : a.reservoir.n ≡ suc v = h.n_is ∙ rw d (add-one v) in
-        let e : listed a.reservoir a.list ≡ opening (key_of r) r.k (suc v) = (lists_now h).listed_is ∙ (λ i. opening (h.key_is i) (h.k_is i) (n i)) in
-        omega (arith, ap length e, used_is a.reservoir a.list h.kept, h.kept.used_le, admit_length r l)
+        let n : a.left.reservoir.n ≡ suc v = h.n_is ∙ rw d (add-one v) in
+        let e : listed a.left.reservoir a.left.list ≡ opening (key_of r) r.k (suc v) = (lists_now h).listed_is ∙ (λ i. opening (h.key_is i) (h.k_is i) (n i)) in
+        omega (arith, ap length e, used_is a.left.reservoir a.left.list h.kept, h.kept.used_le, admit_length r l)
 
     v_due : AdmitAnew r l b a
     v_due =

@@ -50,7 +50,7 @@ pub record Keeps (o p : ConsistentPermutation) : Type 0 where
   pub fit : within p.counters ≡ true
 
 -- the search for the first number below n, from counters that it reached
-first_keeps : (o : ConsistentPermutation) (j c : ℕ) (cs : List ℕ) → j < 15 → within o.counters ≡ true → within cs ≡ true → length cs ≡ 15 → Keeps o (first_of o j c cs).walk
+first_keeps : (o : ConsistentPermutation) (j c : ℕ) (cs : List ℕ) → j < 15 → within o.counters ≡ true → within cs ≡ true → length cs ≡ 15 → Keeps o (first_of o j c cs).left
 first_keeps o j zero cs h f e l = record { key = refl; n = refl; fit = e }
 first_keeps o j (suc c) cs h f e l =
     let d = next_number (key_of o) j cs in
@@ -61,7 +61,7 @@ first_keeps o j (suc c) cs h f e l =
     (λ y. rw (m, y) (record { key = refl; n = refl; fit = w }))
     (λ z. rw (m, z) (first_keeps o j c d.counters h f w (next_length (key_of o) j cs ∙ l))))
 
-pub next_keeps : (o : ConsistentPermutation) → length o.counters ≡ 15 → o.n ≤ 2 ^ 30 → within o.counters ≡ true → Keeps o (next_call o).walk
+pub next_keeps : (o : ConsistentPermutation) → length o.counters ≡ 15 → o.n ≤ 2 ^ 30 → within o.counters ≡ true → Keeps o (next_call o).left
 unfolding next_call
 next_keeps o l u f =
     by_same o.n 0

@@ -11,15 +11,15 @@ use native.Mathlib.Omega.{arith}
 use borrow.Author.Tests.{lt-ltb, le-ltb, ne_eqb, eqb-false}
 use lib.Dec.{eqb}
 use lib.ListN.{length, take}
-use Rattle.answers.specs.Answers.{result}
+use Rattle.answers.specs.Answers.{result, After, after, refused}
 use Rattle.lists.specs.Lists.{keep, below, written}
 use Rattle.lists.proofs.Tests.{by_test, by_below}
 use Rattle.answers.proofs.AnswerLaws.{not_said, said_same}
 use Rattle.orders.specs.declared.consistent_reservoir.ConsistentReservoir.{ConsistentReservoir}
 use Rattle.orders.specs.Orders.{P}
 use Rattle.orders.specs.Reservoirs.{grown, held}
-use Rattle.orders.specs.ReservoirCalls.{key_of, j_of, listed, sample, fitting, AfterOpen, after_open, reservoir_of, open_call, After, after, refused, admit_call, grow_to, grow_layer_call}
-use Rattle.orders.specs.Histories.{Call, admit, grow_layer, ReservoirState, state_after, step_by, after_all}
+use Rattle.orders.specs.ReservoirCalls.{key_of, j_of, listed, sample, fitting, reservoir_of, open_call, admit_call, grow_to, grow_layer_call, reservoir_state, ReservoirState}
+use Rattle.orders.specs.Histories.{Call, admit, grow_layer, step_by, after_all}
 use Rattle.orders.proofs.MemoryLaws.{written_rest, admit_spares}
 use Rattle.orders.specs.Admissions.{Kept, Opened, Short, Admits, AdmissionHolds, Grows, GrowthHolds}
 use Rattle.orders.proofs.LogLaws.{pow_up}
@@ -40,10 +40,10 @@ module _ (r : ConsistentReservoir) (l : List ℕ) where
   raise y full low room =
       let s : Fits r l = fits_parts r l y in
       let j1 : j_of r + 1 ≤ 14 = omega (arith, s.shape.j_low) in
-      let e : grow_layer_call r l ≡ after (result tt) (reservoir_of (key_of r) r.k r.n (j_of r + 1) (length next)) (written next l) =
+      let e : grow_layer_call r l ≡ after (result tt) (reservoir_state (reservoir_of (key_of r) r.k r.n (j_of r + 1) (length next)) (written next l)) =
       rw (y, le-ltb r.k r.used full, ne_eqb (j_of r) 14 low, le-ltb (length l) (length next) room) in
       let nj : r.n ≤ 4 ^ suc (j_of r + 1) = omega (arith, s.shape.n_le, pow_up (suc (j_of r)) (suc (j_of r + 1)) (omega arith)) in
-      subst (λ (a : After (Unit {0})). Grows r l a) (sym e) (record {
+      subst (λ (a : After ReservoirState (Unit {0})). Grows r l a) (sym e) (record {
         answer_is = refl;
         key_is = refl;
         k_is = refl;
@@ -55,19 +55,19 @@ module _ (r : ConsistentReservoir) (l : List ℕ) where
         past_used = written_rest next l (length next) refl;
       })
 
-  unfit : fitting r l ≡ false → grow_layer_call r l ≡ refused 12 r l
+  unfit : fitting r l ≡ false → grow_layer_call r l ≡ refused 12 (reservoir_state r l)
   unfolding grow_layer_call
   unfit m = rw m
 
-  seven : fitting r l ≡ true → r.k < r.used → grow_layer_call r l ≡ refused 7 r l
+  seven : fitting r l ≡ true → r.k < r.used → grow_layer_call r l ≡ refused 7 (reservoir_state r l)
   unfolding grow_layer_call
   seven y h = rw (y, lt-ltb r.k r.used h)
 
-  eight : fitting r l ≡ true → r.used ≤ r.k → eqb (j_of r) 14 ≡ true → grow_layer_call r l ≡ refused 8 r l
+  eight : fitting r l ≡ true → r.used ≤ r.k → eqb (j_of r) 14 ≡ true → grow_layer_call r l ≡ refused 8 (reservoir_state r l)
   unfolding grow_layer_call
   eight y h e = rw (y, le-ltb r.k r.used h, e)
 
-  four : fitting r l ≡ true → r.used ≤ r.k → eqb (j_of r) 14 ≡ false → length l < length next → grow_layer_call r l ≡ refused 4 r l
+  four : fitting r l ≡ true → r.used ≤ r.k → eqb (j_of r) 14 ≡ false → length l < length next → grow_layer_call r l ≡ refused 4 (reservoir_state r l)
   unfolding grow_layer_call grow_to
   four y h m t = rw (y, le-ltb r.k r.used h, m, lt-ltb (length l) _ t)
 
@@ -95,12 +95,12 @@ pub record Reached (key k : ℕ) (t : ReservoirState) : Type 0 where
 pub step_reached : (key k : ℕ) (c : Call) (t : ReservoirState) → Reached key k t → Reached key k (step_by c t)
 step_reached key k admit t s =
     ⊎_elim
-    (λ (h : Short t.reservoir t.list (admit_call t.reservoir t.list)). subst (λ (a : After _). Reached key k (state_after a)) (sym h.is_refused) s)
+    (λ (h : Short t.reservoir t.list (admit_call t.reservoir t.list)). subst (λ (a : After ReservoirState _). Reached key k a.left) (sym h.is_refused) s)
     (λ (h : Admits t.reservoir (admit_call t.reservoir t.list)). record { key_is = h.key_is ∙ s.key_is; k_is = h.k_is ∙ s.k_is; kept = h.kept })
     (admit_kept t.reservoir t.list s.kept)
 step_reached key k grow_layer t s =
     ⊎_elim
-    (λ (h : (c : ℕ) × (grow_layer_call t.reservoir t.list ≡ refused c t.reservoir t.list)). subst (λ (a : After _). Reached key k (state_after a)) (sym h.1) s)
+    (λ (h : (c : ℕ) × (grow_layer_call t.reservoir t.list ≡ refused c (reservoir_state t.reservoir t.list))). subst (λ (a : After ReservoirState _). Reached key k a.left) (sym h.1) s)
     (λ (h : Grows t.reservoir t.list (grow_layer_call t.reservoir t.list)). record { key_is = h.key_is ∙ s.key_is; k_is = h.k_is ∙ s.k_is; kept = h.kept s.kept })
     (growth t.reservoir t.list)
 
@@ -109,16 +109,16 @@ all_reached key k [] t s = s
 all_reached key k (c ∷ cs) t s = all_reached key k cs (step_by c t) (step_reached key k c t s)
 
 -- what an open that was not refused says and leaves
-pub accepted : (k n key : ℕ) (l : List ℕ) (r : ConsistentReservoir) (l' : List ℕ) → open_call k n key l ≡ after_open (result r) l' → Opened key k n r l'
+pub accepted : (k n key : ℕ) (l : List ℕ) (r : ConsistentReservoir) (l' : List ℕ) → open_call k n key l ≡ after (result r) l' → Opened key k n r l'
 accepted k n key l r l' =
-    open_kept (λ o. o ≡ after_open (result r) l' → Opened key k n r l') k n key l
-    (λ c q. not_said c r (ap (λ (o : AfterOpen). o.answer) q))
-    (λ r₁ l₁ o q. let p : r₁ ≡ r = said_same r₁ r (ap (λ (z : AfterOpen). z.answer) q) in
-    let m : l₁ ≡ l' = ap (λ (z : AfterOpen). z.list) q in
+    open_kept (λ o. o ≡ after (result r) l' → Opened key k n r l') k n key l
+    (λ c q. not_said c r (ap (λ (o : (After (List ℕ) ConsistentReservoir)). o.answer) q))
+    (λ r₁ l₁ o q. let p : r₁ ≡ r = said_same r₁ r (ap (λ (z : (After (List ℕ) ConsistentReservoir)). z.answer) q) in
+    let m : l₁ ≡ l' = ap (λ (z : (After (List ℕ) ConsistentReservoir)). z.left) q in
     subst (λ (z : List ℕ). Opened key k n r z) m (subst (λ (z : ConsistentReservoir). Opened key k n z l₁) p o))
 
 -- from an accepted open, after any list of calls
-module _ (k n key : ℕ) (l : List ℕ) (t : ReservoirState) (is_open : open_call k n key l ≡ after_open (result t.reservoir) t.list) (cs : List Call) where
+module _ (k n key : ℕ) (l : List ℕ) (t : ReservoirState) (is_open : open_call k n key l ≡ after (result t.reservoir) t.list) (cs : List Call) where
   abbrev now : ReservoirState
   now = after_all cs t
 
@@ -146,7 +146,7 @@ pub admission : AdmissionHolds
 admission k n key l t is_open cs =
     let now : ReservoirState = after_all cs t in
     let r : ConsistentReservoir = now.reservoir in
-    let a : After (Option (ℕ × ℕ)) = admit_call now.reservoir now.list in
+    let a : After ReservoirState (Option (ℕ × ℕ)) = admit_call now.reservoir now.list in
     let s : Reached key k now = reached k n key l t is_open cs in
     record {
       key_is = s.key_is;
@@ -154,6 +154,6 @@ admission k n key l t is_open cs =
       kept = s.kept;
       due_is = due_holds (key_of r) r.k r.n;
       outcome = admit_kept now.reservoir now.list s.kept;
-      sample_is = λ h. admit_changes now.reservoir now.list s.kept a.reservoir a.list h.kept h.key_is h.k_is _ refl h.n_is;
+      sample_is = λ h. admit_changes now.reservoir now.list s.kept a.left.reservoir a.left.list h.kept h.key_is h.k_is _ refl h.n_is;
       past_used = admit_spares r now.list;
     }

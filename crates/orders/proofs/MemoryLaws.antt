@@ -17,10 +17,12 @@ use Rattle.lists.proofs.Standing.{standing_le}
 use Rattle.lists.proofs.Writing.{length_written}
 use Rattle.orders.specs.declared.consistent_reservoir.ConsistentReservoir.{ConsistentReservoir}
 use Rattle.orders.specs.Reservoirs.{counts, opening, incoming, grown, wider}
-use Rattle.orders.specs.ReservoirCalls.{key_of, j_of, listed, fitting, AfterOpen, open_call, After, exchange_by, exchange, admit_at, admit_call, grow_to, grow_layer_call}
+use Rattle.orders.specs.ReservoirCalls.{key_of, j_of, listed, fitting, open_call, exchange_by, exchange, admit_at, admit_call, grow_to, grow_layer_call, ReservoirState}
 use Rattle.orders.specs.Admissions.{PastUsed, OpenedPast}
 use Rattle.orders.specs.InnerPasses.{low_of}
 use Rattle.orders.proofs.AdmitLaws.{here_done, admit_longer}
+use Rattle.answers.proofs.MakingLaws.{sizes_by}
+use Rattle.answers.specs.Answers.{After, refused}
 
 pub written_rest : (xs l : List ℕ) (u : ℕ) → length xs ≡ u → drop u (written xs l) ≡ drop u l
 unfolding written
@@ -32,16 +34,14 @@ either P true x y p q = p
 either P false x y p q = q
 
 -- an open
-pub open_spares : (k n key : ℕ) (l : List ℕ) → OpenedPast l (open_call k n key l).answer (open_call k n key l).list
+pub open_spares : (k n key : ℕ) (l : List ℕ) → OpenedPast l (open_call k n key l).answer (open_call k n key l).left
 unfolding open_call
 open_spares k n key l =
-    either spares (ltb (2 ^ 30) n) _ _ refl
-    (either spares (eqb k 0) _ _ refl
-    (either spares (ltb n k) _ _ refl
-    (either spares (ltb (length l) (length (opening key k n))) _ _ refl (written_rest (opening key k n) l (length (opening key k n)) refl))))
+    sizes_by (2 ^ 30) 1 k n spares (λ w. refused w l) _ (λ y. refl) (λ y. refl) (λ y. refl)
+    (λ s. either spares (ltb (length l) (length (opening key k n))) _ _ refl (written_rest (opening key k n) l (length (opening key k n)) refl))
   where
-    spares : AfterOpen → Type 0
-    spares o = OpenedPast l o.answer o.list
+    spares : After (List ℕ) ConsistentReservoir → Type 0
+    spares o = OpenedPast l o.answer o.left
 
 exchange_spares : (r : ConsistentReservoir) (i : ℕ) (xs l : List ℕ) → PastUsed l (exchange r i xs l)
 unfolding exchange exchange_by
@@ -73,28 +73,26 @@ grow_spares r l =
     refl
 
 -- an admit that does not grow leaves every place
-pub admit_quiet : (r : ConsistentReservoir) (l : List ℕ) → fitting r l ≡ true → r.k < r.used → (admit_call r l).list ≡ l
+pub admit_quiet : (r : ConsistentReservoir) (l : List ℕ) → fitting r l ≡ true → r.k < r.used → (admit_call r l).left.list ≡ l
 admit_quiet r l e h =
-    ap (λ (a : After (Option (ℕ × ℕ))). a.list)
+    ap (λ (a : After ReservoirState (Option (ℕ × ℕ))). a.left.list)
     (sym (here_done r l e h (low_of r.n (listed r l)) refl _ refl ∙ admit_longer r l e h))
 
 -- ---- the list keeps its length: what is written over it is no longer than it, or the call is refused 4
 
-pub open_length : (k n key : ℕ) (l : List ℕ) → length (open_call k n key l).list ≡ length l
+pub open_length : (k n key : ℕ) (l : List ℕ) → length (open_call k n key l).left ≡ length l
 unfolding open_call
 open_length k n key l =
-    either long (ltb (2 ^ 30) n) _ _ refl
-    (either long (eqb k 0) _ _ refl
-    (either long (ltb n k) _ _ refl
-    (by_cond long (ltb (length l) (length (opening key k n))) _ _
+    sizes_by (2 ^ 30) 1 k n long (λ w. refused w l) _ (λ y. refl) (λ y. refl) (λ y. refl)
+    (λ s. by_cond long (ltb (length l) (length (opening key k n))) _ _
     (λ y. refl)
-    (λ m. length_written (opening key k n) l (ltb-false (length l) (length (opening key k n)) m)))))
+    (λ m. length_written (opening key k n) l (ltb-false (length l) (length (opening key k n)) m)))
   where
-    long : AfterOpen → Type 0
-    long o = length o.list ≡ length l
+    long : After (List ℕ) ConsistentReservoir → Type 0
+    long o = length o.left ≡ length l
 
-abbrev pub Long : {A : Type 0} → List ℕ → After A → Type 0
-Long l a = length a.list ≡ length l
+abbrev pub Long : {A : Type 0} → List ℕ → After ReservoirState A → Type 0
+Long l a = length a.left.list ≡ length l
 
 exchange_length : (r : ConsistentReservoir) (i : ℕ) (xs l : List ℕ) → Long l (exchange r i xs l)
 unfolding exchange exchange_by

@@ -11,14 +11,14 @@ use native.Mathlib.Omega.{arith}
 use borrow.Author.Tests.{lt-ltb, le-ltb, lt-leb, eq-eqb, ne_eqb}
 use lib.ListN.{length, set}
 use lib.Seq.{get_or-set_same, set-get_or, set-set}
-use Rattle.answers.specs.Answers.{Answer, refusal, result}
+use Rattle.answers.specs.Answers.{Answer, refusal, result, after}
 use Rattle.lists.specs.Lists.{below}
 use Rattle.lists.proofs.Tests.{below_yes, below_no, by_test, by_below}
 use Rattle.layers.specs.Layer.{size, layer}
 use Rattle.orders.specs.declared.consistent_permutation.ConsistentPermutation.{ConsistentPermutation}
 use Rattle.orders.specs.declared.counters.Walked.{Walked}
 use Rattle.orders.specs.Orders.{layer_of, counter, output, counted, zero_top, Draw, draw, next_number}
-use Rattle.orders.specs.OrderCalls.{order_of, key_of, step, within, meets, first_of, next_call, tested}
+use Rattle.orders.specs.OrderCalls.{order_of, key_of, within, meets, first_of, next_call, tested}
 use Rattle.orders.specs.InnerCounters.{raises, walked, seek, walk_of, stop_of, lower_step, zero_step, top_step}
 use Rattle.orders.proofs.LogLaws.{size_limit, layer_in, layer_quarter}
 use Rattle.orders.proofs.WalkLaws.{next_set, next_low, next_high}
@@ -99,12 +99,12 @@ module _ (o : ConsistentPermutation) where
 
   -- ---- the three ends of the walk
 
-  pub top_none : (j : ℕ) (w : Walked) → w.number ≡ None → top_step o j w ≡ step (result none) (order_of (key_of o) o.n (set o.counters j w.input))
+  pub top_none : (j : ℕ) (w : Walked) → w.number ≡ None → top_step o j w ≡ after (result none) (order_of (key_of o) o.n (set o.counters j w.input))
   unfolding top_step
   top_none j w e = rw e refl
 
   pub top_high : (j y : ℕ) (w : Walked) → w.number ≡ Some y → 4 ^ j ≤ y
-      → top_step o j w ≡ step (result (some y)) (order_of (key_of o) o.n (set o.counters j w.input))
+      → top_step o j w ≡ after (result (some y)) (order_of (key_of o) o.n (set o.counters j w.input))
   unfolding top_step
   top_high j y w e l = rw (e, below_no y (4 ^ j) l) refl
 
@@ -146,12 +146,12 @@ module _ (o : ConsistentPermutation) where
   zero_lower zero x y h = absurd (h refl)
   zero_lower (suc i) x y h = let e : suc i - 1 ≡ i = omega arith in rw e refl
 
-  pub zero_zero : (j x y : ℕ) → j ≡ 0 → zero_step o j x y ≡ step (result (some y)) (order_of (key_of o) o.n (set o.counters j x))
+  pub zero_zero : (j x y : ℕ) → j ≡ 0 → zero_step o j x y ≡ after (result (some y)) (order_of (key_of o) o.n (set o.counters j x))
   zero_zero zero x y h = refl
   zero_zero (suc i) x y h = absurd (omega arith)
 
   -- the descent met a counter at its size
-  pub lower_met : (i x : ℕ) → None ≡ stop_of (key_of o) i o.counters → lower_step o i x ≡ step (refusal 12) o
+  pub lower_met : (i x : ℕ) → None ≡ stop_of (key_of o) i o.counters → lower_step o i x ≡ after (refusal 12) o
   unfolding lower_step stop_of
   lower_met i x e =
       by_test (meets (key_of o) i o.counters)
@@ -189,7 +189,7 @@ module _ (o : ConsistentPermutation) where
   lower_low i y l e f = omega (arith, (stopped i y e).low)
 
   pub lower_gave : (top x y l : ℕ) → 0 < top → Some y ≡ stop_of (key_of o) (top - 1) o.counters → l ≡ layer_of (y + 1)
-      → lower_step o (top - 1) x ≡ step (result (some y)) (order_of (key_of o) o.n (set (raises o.counters l (top - l)) top x))
+      → lower_step o (top - 1) x ≡ after (result (some y)) (order_of (key_of o) o.n (set (raises o.counters l (top - l)) top x))
   unfolding lower_step
   lower_gave top x y l p e f =
       let s : Stopped (top - 1) y = stopped (top - 1) y e in
@@ -212,7 +212,7 @@ module _ (o : ConsistentPermutation) where
       (λ h. record { fit = f; limit = h }))
       (λ f. absurd (let z : result tt ≡ refusal 12 = rw f at e in cc))
 
-  pub tested_no : (c : ℕ) → refusal c ≡ tested o → next_call o ≡ step (refusal c) o
+  pub tested_no : (c : ℕ) → refusal c ≡ tested o → next_call o ≡ after (refusal c) o
   unfolding tested next_call
   tested_no c e =
       by_test (within o.counters)
@@ -223,7 +223,7 @@ module _ (o : ConsistentPermutation) where
       (λ f. let z : ◌≡◌ {A = Answer (Unit {0})} (refusal c) (refusal 12) = rw f at e in
       let w : c ≡ 12 = cc in rw (f, w) refl)
 
-  pub next_empty : within o.counters ≡ true → o.n ≡ 0 → next_call o ≡ step (result none) o
+  pub next_empty : within o.counters ≡ true → o.n ≡ 0 → next_call o ≡ after (result none) o
   unfolding next_call
   next_empty e z = rw (e, le-ltb (2 ^ 30) o.n (omega arith), eq-eqb o.n 0 z) refl
 

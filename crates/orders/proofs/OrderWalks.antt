@@ -8,7 +8,7 @@ use Prim.Native.Nat.{ℕ, zero, suc, ◌+◌, ◌-◌, ◌^◌, ◌≤◌, ◌<�
 use native.Mathlib.Omega.{arith}
 use borrow.Author.Tests.{le-ltb, le-leb, eq-eqb, ne_eqb}
 use lib.ListN.{length, length-replicate, get_or-replicate}
-use Rattle.answers.specs.Answers.{result}
+use Rattle.answers.specs.Answers.{result, after}
 use Rattle.answers.specs.Steps.{Step, answers, one_by_one}
 use Rattle.lists.specs.Lists.{keep, below}
 use Rattle.lists.proofs.Tests.{below_no, by_test, by_below, by_same}
@@ -18,7 +18,7 @@ use Rattle.answers.proofs.Turns.{Turn, ended, gave, all_answers}
 use Rattle.layers.specs.Layer.{size}
 use Rattle.orders.specs.declared.consistent_permutation.ConsistentPermutation.{ConsistentPermutation}
 use Rattle.orders.specs.Orders.{layer_of, counter, none_counted, next_number, next_numbers, whole, P}
-use Rattle.orders.specs.OrderCalls.{order_of, key_of, step, within, meets, first_of, next_call, tested}
+use Rattle.orders.specs.OrderCalls.{order_of, key_of, within, meets, first_of, next_call, tested}
 use Rattle.orders.proofs.LogLaws.{size_suc, layer_in}
 use Rattle.orders.proofs.WalkLaws.{next_length}
 use Rattle.orders.proofs.SyncLaws.{Synced, synced_start, synced_counter, synced_le, next_above, Goes, goes}
@@ -81,9 +81,9 @@ going_tested o g = rw (walked_within (key_of o) (layer_of o.n) o.counters g.walk
 
 -- what a search through the next c numbers comes to
 data Comes (o : ConsistentPermutation) (j c : ℕ) (cs : List ℕ) : Type 0 where
-  at_end : (ds : List ℕ) → first_of o j c cs ≡ step (result none) (order_of (key_of o) o.n ds) → Walked (key_of o) j ds → counter ds j ≡ 4 ^ suc j
+  at_end : (ds : List ℕ) → first_of o j c cs ≡ after (result none) (order_of (key_of o) o.n ds) → Walked (key_of o) j ds → counter ds j ≡ 4 ^ suc j
       → keep (below o.n) (next_numbers (key_of o) j c cs) ≡ [] → Comes o j c cs
-  with_number : (x : ℕ) (ds : List ℕ) → first_of o j c cs ≡ step (result (some x)) (order_of (key_of o) o.n ds) → Walked (key_of o) j ds
+  with_number : (x : ℕ) (ds : List ℕ) → first_of o j c cs ≡ after (result (some x)) (order_of (key_of o) o.n ds) → Walked (key_of o) j ds
       → keep (below o.n) (next_numbers (key_of o) j c cs) ≡ x ∷ keep (below o.n) (next_numbers (key_of o) j (4 ^ suc j - counter ds j) ds)
       → Comes o j c cs
 
@@ -108,11 +108,11 @@ nothing_below_0 xs = keep_none (below 0) xs (λ x h. below_no x 0 (omega arith))
 empty_turn : (o : ConsistentPermutation) → Going o → o.n ≡ 0 → Turn next_call rest_of Going o
 unfolding next_call
 empty_turn o g e =
-    let f : next_call o ≡ step (result none) o =
+    let f : next_call o ≡ after (result none) o =
     rw (walked_within (key_of o) (layer_of o.n) o.counters g.walked, le-ltb (2 ^ 30) o.n g.n_in, eq-eqb o.n 0 e) in
     let xs : List ℕ = next_numbers (key_of o) (layer_of o.n) (size (layer_of o.n) - counter o.counters (layer_of o.n)) o.counters in
     let z : rest_of o ≡ [] = ap (λ (i : ℕ). keep (below i) xs) e ∙ nothing_below_0 xs in
-    ended (ap (λ (t : Step ConsistentPermutation). t.said) f) (rw f g) (ap (λ (t : Step ConsistentPermutation). rest_of t.walk) f ∙ z) z
+    ended (ap (λ (t : Step ConsistentPermutation). t.answer) f) (rw f g) (ap (λ (t : Step ConsistentPermutation). rest_of t.left) f ∙ z) z
 
 module _ (o : ConsistentPermutation) (g : Going o) (d : o.n ≡ 0 → ⊥) where
   abbrev left : ℕ
@@ -125,17 +125,17 @@ module _ (o : ConsistentPermutation) (g : Going o) (d : o.n ≡ 0 → ⊥) where
 
   some_turn : Comes o (layer_of o.n) left o.counters → Turn next_call rest_of Going o
   some_turn (at_end ds e w z r) =
-      let f : next_call o ≡ step (result none) (order_of (key_of o) o.n ds) = searched ∙ e in
+      let f : next_call o ≡ after (result none) (order_of (key_of o) o.n ds) = searched ∙ e in
       let q : size (layer_of o.n) - counter ds (layer_of o.n) ≡ 0 = omega (arith, z, size_suc (layer_of o.n)) in
       let t : rest_of (order_of (key_of o) o.n ds) ≡ [] = ap (λ (c : ℕ). keep (below o.n) (next_numbers (key_of o) (layer_of o.n) c ds)) q in
-      ended (ap (λ (s : Step ConsistentPermutation). s.said) f) (rw f (record { n_in = g.n_in; walked = w }))
-      (ap (λ (s : Step ConsistentPermutation). rest_of s.walk) f ∙ t) r
+      ended (ap (λ (s : Step ConsistentPermutation). s.answer) f) (rw f (record { n_in = g.n_in; walked = w }))
+      (ap (λ (s : Step ConsistentPermutation). rest_of s.left) f ∙ t) r
   some_turn (with_number x ds e w r) =
-      let f : next_call o ≡ step (result (some x)) (order_of (key_of o) o.n ds) = searched ∙ e in
+      let f : next_call o ≡ after (result (some x)) (order_of (key_of o) o.n ds) = searched ∙ e in
       let q : rest_of o ≡ x ∷ rest_of (order_of (key_of o) o.n ds) =
       r ∙ ap (λ (s : ℕ). x ∷ keep (below o.n) (next_numbers (key_of o) (layer_of o.n) (s - counter ds (layer_of o.n)) ds)) (sym (size_suc (layer_of o.n))) in
-      gave x (ap (λ (s : Step ConsistentPermutation). s.said) f) (rw f (record { n_in = g.n_in; walked = w }))
-      (q ∙ ap (λ (s : Step ConsistentPermutation). x ∷ rest_of s.walk) (sym f))
+      gave x (ap (λ (s : Step ConsistentPermutation). s.answer) f) (rw f (record { n_in = g.n_in; walked = w }))
+      (q ∙ ap (λ (s : Step ConsistentPermutation). x ∷ rest_of s.left) (sym f))
 
 pub next_turn : (o : ConsistentPermutation) → Going o → Turn next_call rest_of Going o
 next_turn o g =

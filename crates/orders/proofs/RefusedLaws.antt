@@ -9,10 +9,12 @@ use Prim.Native.Nat.{ℕ, zero, suc, ◌-◌, ◌^◌, ◌≤◌}
 use borrow.Author.Tests.{le-ltb}
 use lib.Dec.{ltb, eqb}
 use lib.ListN.{length}
-use Rattle.answers.specs.Answers.{Answer, map_answer}
+use Rattle.answers.proofs.MakingLaws.{sizes_by}
+use Rattle.answers.specs.Answers.{Answer, map_answer, After, refused}
 use Rattle.answers.specs.Steps.{Step}
 use Rattle.lists.specs.Lists.{below, same, has, every}
 use Rattle.answers.specs.Refusing.{Among, Spares}
+use Rattle.answers.specs.Making.{short_refusal}
 use Rattle.lists.proofs.Tests.{by_cond}
 use Rattle.answers.proofs.Spared.{spared_within}
 use Rattle.orders.specs.declared.consistent_permutation.ConsistentPermutation.{ConsistentPermutation}
@@ -21,7 +23,7 @@ use Rattle.layers.specs.Layer.{size}
 use Rattle.orders.specs.Orders.{layer_of, counter, next_number}
 use Rattle.orders.specs.OrderCalls as Order
 use Rattle.orders.specs.Reservoirs.{opening, wider}
-use Rattle.orders.specs.ReservoirCalls.{After, after, AfterOpen, AfterSample, key_of, j_of, fitting, open_call, short_refusal, exchange_by, exchange, admit_at, admit_call, grow_to, grow_layer_call, sample_call}
+use Rattle.orders.specs.ReservoirCalls.{key_of, j_of, fitting, open_call, exchange_by, exchange, admit_at, admit_call, grow_to, grow_layer_call, sample_call, ReservoirState, reservoir_state}
 use Rattle.orders.specs.RefusedBy.{order_refusals, order_next_refusals, walk_new_refusals, open_refusals, admit_refusals, grow_layer_refusals, sample_refusals}
 
 -- ---- orders
@@ -32,10 +34,10 @@ order_refuses n key = by_cond (Among order_refusals) (ltb (2 ^ 30) n) _ _ (λ ab
 
 module _ (o : ConsistentPermutation) where
   abbrev OrderSpared : Step ConsistentPermutation → Type 0
-  OrderSpared s = Spares order_next_refusals s.said o s.walk
+  OrderSpared s = Spares order_next_refusals s.answer o s.left
 
   abbrev WalkSpared : Step ConsistentPermutation → Type 0
-  WalkSpared s = Spares (12 ∷ []) s.said o s.walk
+  WalkSpared s = Spares (12 ∷ []) s.answer o s.left
 
   first_refuses : (j c : ℕ) (cs : List ℕ) → WalkSpared (Order.first_of o j c cs)
   unfolding has same
@@ -45,13 +47,13 @@ module _ (o : ConsistentPermutation) where
       (λ met. (refl, refl))
       (λ not. by_cond WalkSpared (below o.n (next_number (Order.key_of o) j cs).number) _ _ (λ is. tt) (λ later. first_refuses j c _))
 
-  pub order_next_refuses : let s = Order.next_call o in Spares order_next_refusals s.said o s.walk
+  pub order_next_refuses : let s = Order.next_call o in Spares order_next_refusals s.answer o s.left
   unfolding Order.next_call every has same
   order_next_refuses =
       by_cond OrderSpared (Order.within o.counters) _ _
       (λ fits. by_cond OrderSpared (ltb (2 ^ 30) o.n) _ _ (λ above. (refl, refl)) (λ not. by_cond OrderSpared (eqb o.n 0) _ _ (λ zero. tt)
       (λ some. let s = Order.first_of o (layer_of o.n) (size (layer_of o.n) - counter o.counters (layer_of o.n)) o.counters in
-      spared_within (12 ∷ []) order_next_refusals s.said o s.walk refl (first_refuses (layer_of o.n) (size (layer_of o.n) - counter o.counters (layer_of o.n)) o.counters))))
+      spared_within (12 ∷ []) order_next_refusals s.answer o s.left refl (first_refuses (layer_of o.n) (size (layer_of o.n) - counter o.counters (layer_of o.n)) o.counters))))
       (λ unfit. (refl, refl))
 
   pub walk_new_refuses : Among walk_new_refusals (Order.walk_new_call o)
@@ -63,7 +65,7 @@ module _ (o : ConsistentPermutation) where
       Refused t = Among walk_new_refusals (map_answer (λ u. o) t)
 
   -- an order that is walked passes the tests, as the ghost fields of `OrderWalk` say: 1 is not left
-  pub walk_refused_12 : Order.within o.counters ≡ true → o.n ≤ 2 ^ 30 → let s = Order.next_call o in Spares (12 ∷ []) s.said o s.walk
+  pub walk_refused_12 : Order.within o.counters ≡ true → o.n ≤ 2 ^ 30 → let s = Order.next_call o in Spares (12 ∷ []) s.answer o s.left
   unfolding Order.next_call
   walk_refused_12 f h =
       rw (f, le-ltb (2 ^ 30) o.n h) (by_cond WalkSpared (eqb o.n 0) _ _ (λ zero. tt)
@@ -72,28 +74,26 @@ module _ (o : ConsistentPermutation) where
 -- ---- reservoirs
 
 -- the refusal of an open for which some memory is too short
-pub short_refuses : (k n : ℕ) → has (short_refusal k n) open_refusals ≡ true
-unfolding short_refusal has same
+pub short_refuses : (k n : ℕ) → has (short_refusal (2 ^ 30) 1 k n) open_refusals ≡ true
+unfolding has same
 short_refuses k n =
-    by_cond Is (ltb (2 ^ 30) n) _ _ (λ y. refl) (λ m. by_cond Is (eqb k 0) _ _ (λ y. refl) (λ m. by_cond Is (ltb n k) _ _ (λ y. refl) (λ m. refl)))
+    sizes_by (2 ^ 30) 1 k n Is (λ w. w) 4 (λ y. refl) (λ y. refl) (λ y. refl) (λ s. refl)
   where
     Is : ℕ → Type 0
     Is w = has w open_refusals ≡ true
 
-pub open_refuses : (k n key : ℕ) (l : List ℕ) → let a = open_call k n key l in Spares open_refusals a.answer l a.list
+pub open_refuses : (k n key : ℕ) (l : List ℕ) → let a = open_call k n key l in Spares open_refusals a.answer l a.left
 unfolding open_call has same
 open_refuses k n key l =
-    by_cond Spared (ltb (2 ^ 30) n) _ _ (λ above. (refl, refl))
-    (λ m. by_cond Spared (eqb k 0) _ _ (λ none. (refl, refl))
-    (λ m. by_cond Spared (ltb n k) _ _ (λ more. (refl, refl))
-    (λ m. by_cond Spared (ltb (length l) (length (opening key k n))) _ _ (λ short. (refl, refl)) (λ long. tt))))
+    sizes_by (2 ^ 30) 1 k n Spared (λ w. refused w l) _ (λ above. (refl, refl)) (λ none. (refl, refl)) (λ more. (refl, refl))
+    (λ s. by_cond Spared (ltb (length l) (length (opening key k n))) _ _ (λ short. (refl, refl)) (λ long. tt))
   where
-    Spared : AfterOpen → Type 0
-    Spared a = Spares open_refusals a.answer l a.list
+    Spared : After (List ℕ) ConsistentReservoir → Type 0
+    Spared a = Spares open_refusals a.answer l a.left
 
 module _ (r : ConsistentReservoir) (l : List ℕ) where
-  abbrev Spared : List ℕ → {A : Type 0} → After A → Type 0
-  Spared ws a = Spares ws a.answer (after a.answer r l) a
+  abbrev Spared : List ℕ → {A : Type 0} → After ReservoirState A → Type 0
+  Spared ws a = Spares ws a.answer (reservoir_state r l) a.left
 
   exchange_refuses : (i : ℕ) (xs : List ℕ) → Spared admit_refusals (exchange r i xs l)
   unfolding exchange exchange_by has same
@@ -103,14 +103,14 @@ module _ (r : ConsistentReservoir) (l : List ℕ) where
   wider_refuses none = tt
   wider_refuses (some i) = exchange_refuses i _
 
-  pub admit_refuses : let a = admit_call r l in Spares admit_refusals a.answer (after a.answer r l) a
+  pub admit_refuses : let a = admit_call r l in Spares admit_refusals a.answer (reservoir_state r l) a.left
   unfolding admit_call has same
   admit_refuses =
       by_cond (Spared admit_refusals) (fitting r l) _ _
       (λ fits. by_cond (Spared admit_refusals) (ltb r.k r.used) _ _ (λ more. exchange_refuses _ _) (λ same. wider_refuses (wider (key_of r) r.k (j_of r))))
       (λ unfit. (refl, refl))
 
-  pub grow_layer_refuses : let a = grow_layer_call r l in Spares grow_layer_refusals a.answer (after a.answer r l) a
+  pub grow_layer_refuses : let a = grow_layer_call r l in Spares grow_layer_refusals a.answer (reservoir_state r l) a.left
   unfolding grow_layer_call grow_to has same
   grow_layer_refuses =
       by_cond (Spared grow_layer_refusals) (fitting r l) _ _
@@ -119,12 +119,12 @@ module _ (r : ConsistentReservoir) (l : List ℕ) where
       (λ not. by_cond (Spared grow_layer_refusals) (ltb (length l) _) _ _ (λ short. (refl, refl)) (λ long. tt))))
       (λ unfit. (refl, refl))
 
-  pub sample_refuses : (out : List ℕ) → let a = sample_call r l out in Spares sample_refusals a.answer out a.out
+  pub sample_refuses : (out : List ℕ) → let a = sample_call r l out in Spares sample_refusals a.answer out a.left
   unfolding sample_call has same
   sample_refuses out =
       by_cond SampleSpared (fitting r l) _ _
       (λ fits. by_cond SampleSpared (ltb (length out) r.k) _ _ (λ short. (refl, refl)) (λ long. tt))
       (λ unfit. (refl, refl))
     where
-      SampleSpared : AfterSample → Type 0
-      SampleSpared a = Spares sample_refusals a.answer out a.out
+      SampleSpared : (After (List ℕ) (Unit {0})) → Type 0
+      SampleSpared a = Spares sample_refusals a.answer out a.left

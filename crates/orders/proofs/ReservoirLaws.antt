@@ -6,13 +6,14 @@ use mathlib.Core.Bool.{true}
 use mathlib.Core.List.{List}
 use Prim.Native.Nat.{ℕ, suc, ◌-◌, ◌^◌, ◌≤◌, ◌<◌}
 use native.Mathlib.Omega.{arith}
-use borrow.Author.Tests.{lt-ltb, le-leb, eq-eqb, ltb-false, eqb-false}
-use lib.Dec.{ltb, eqb}
+use borrow.Author.Tests.{lt-ltb, le-leb, eq-eqb}
+use lib.Dec.{ltb}
 use lib.ListN.{length, take, drop, length-append}
 use lib.Seq.{take_at, length-take-le}
-use Rattle.answers.specs.Answers.{refusal, result}
+use Rattle.answers.proofs.MakingLaws.{Sizes, sizes_by}
+use Rattle.answers.specs.Answers.{result, After, after, refused}
 use Rattle.lists.specs.Lists.{keep, below, count_below, every, up_to, last, written}
-use Rattle.lists.proofs.Tests.{below→lt, by_test}
+use Rattle.lists.proofs.Tests.{below→lt, by_cond}
 use Rattle.lists.proofs.Keeping.{every_all}
 use Rattle.lists.proofs.Counting.{order_all}
 use Rattle.lists.proofs.Prefixes.{all_up_to, up_to_ends, ends_end}
@@ -20,7 +21,7 @@ use Rattle.layers.specs.Layer.{size}
 use Rattle.orders.specs.declared.consistent_reservoir.ConsistentReservoir.{ConsistentReservoir}
 use Rattle.orders.specs.Orders.{layer_of, P}
 use Rattle.orders.specs.Reservoirs.{opening, held}
-use Rattle.orders.specs.ReservoirCalls.{key_of, j_of, listed, sample, fitting, AfterOpen, after_open, reservoir_of, open_call}
+use Rattle.orders.specs.ReservoirCalls.{key_of, j_of, listed, sample, fitting, reservoir_of, open_call}
 use Rattle.orders.specs.Admissions.{Kept, Opened}
 use Rattle.orders.specs.InnerPasses.{place}
 use Rattle.orders.proofs.LogLaws.{size_suc, layer_fits, layer_in, pow_up}
@@ -118,24 +119,16 @@ opening_held key k n h =
     ap (up_to (below n) k) (P_size key (layer_of n) (layer_in n h) ∙ whole_place key (layer_of n) (layer_in n h))
 
 -- any property of what an open says and leaves, by cases: a refusal leaves the list
-pub open_kept : (Q : AfterOpen → Type 0) (k n key : ℕ) (l : List ℕ) → ((c : ℕ) → Q (after_open (refusal c) l))
-    → ((r : ConsistentReservoir) (l' : List ℕ) → Opened key k n r l' → Q (after_open (result r) l')) → Q (open_call k n key l)
+pub open_kept : (Q : After (List ℕ) ConsistentReservoir → Type 0) (k n key : ℕ) (l : List ℕ) → ((c : ℕ) → Q (refused c l))
+    → ((r : ConsistentReservoir) (l' : List ℕ) → Opened key k n r l' → Q (after (result r) l')) → Q (open_call k n key l)
 unfolding open_call
 open_kept Q k n key l out in' =
-    by_test (ltb (2 ^ 30) n)
-    (λ y. rw y (out 1))
-    (λ m1. rw m1 (by_test (eqb k 0)
-    (λ y. rw y (out 2))
-    (λ m2. rw m2 (by_test (ltb n k)
-    (λ y. rw y (out 3))
-    (λ m3. rw m3 (by_test (ltb (length l) (length (opening key k n)))
-    (λ y. rw y (out 4))
-    (λ m4. rw m4 (let k0 : k ≡ 0 → ⊥ = eqb-false k 0 m2 in
-    let b : n ≤ 2 ^ 30 = ltb-false (2 ^ 30) n m1 in
-    in' (reservoir_of key k n (layer_of n) (length (opening key k n))) (written (opening key k n) l) (record {
+    sizes_by (2 ^ 30) 1 k n Q (λ w. refused w l) _ (λ y. out 1) (λ y. out 2) (λ y. out 3)
+    (λ (s : Sizes (2 ^ 30) 1 k n). by_cond Q (ltb (length l) (length (opening key k n))) _ _ (λ y. out 4)
+    (λ m. in' (reservoir_of key k n (layer_of n) (length (opening key k n))) (written (opening key k n) l) (record {
       key_is = refl;
       k_is = refl;
       n_is = refl;
       layer_is = refl;
-      kept = written_kept key k n (layer_of n) (length (opening key k n)) (opening key k n) l (omega arith) (ltb-false n k m3) (layer_fits n) (layer_in n b) refl (opening_held key k n b);
-    })))))))))
+      kept = written_kept key k n (layer_of n) (length (opening key k n)) (opening key k n) l (omega (arith, s.few, s.enough)) s.few (layer_fits n) (layer_in n s.limited) refl (opening_held key k n s.limited);
+    })))

@@ -4,13 +4,13 @@
 -- Assumes nothing.
 use Rattle.std.specs.Prelude.{◌≡◌, ◌⊎◌, true, false, cond, List, ℕ, suc, ◌+◌, ◌^◌, ◌≤◌, ◌<◌, ltb, length, drop}
 use Rattle.std.proofs.Math.Option.{Option, none, some, get_or}
-use Rattle.answers.specs.Answers.{Answer, refusal, result}
+use Rattle.answers.specs.Answers.{Answer, refusal, result, After, after, refused}
 use Rattle.lists.specs.Lists.{Exchanges}
 use Rattle.orders.specs.declared.consistent_reservoir.ConsistentReservoir.{ConsistentReservoir}
 use Rattle.orders.specs.Orders.{layer_of}
 use Rattle.orders.specs.Reservoirs.{wider, held, among, due, in_and_out, n_after}
-use Rattle.orders.specs.ReservoirCalls.{key_of, j_of, listed, sample, after_open, open_call, After, refused, admit_call, grow_layer_call}
-use Rattle.orders.specs.Histories.{Call, ReservoirState, after_all}
+use Rattle.orders.specs.ReservoirCalls.{key_of, j_of, listed, sample, open_call, admit_call, grow_layer_call, reservoir_state, ReservoirState}
+use Rattle.orders.specs.Histories.{Call, after_all}
 
 -- ---- what is due
 
@@ -67,7 +67,7 @@ abbrev pub ends_at : ConsistentReservoir → Option ℕ
 ends_at r = cond (ltb r.k r.used) (some (j_of r)) (wider (key_of r) r.k (j_of r))
 
 -- refusal 4
-pub record Short (r : ConsistentReservoir) (l : List ℕ) (a : After (Option (ℕ × ℕ))) : Type 0 where
+pub record Short (r : ConsistentReservoir) (l : List ℕ) (a : After ReservoirState (Option (ℕ × ℕ))) : Type 0 where
   -- a number is due, and the layer that the admit ends at
   pub v : ℕ
   pub j : ℕ
@@ -77,24 +77,24 @@ pub record Short (r : ConsistentReservoir) (l : List ℕ) (a : After (Option (�
   -- "a lent list shorter .. than the used length that the call would end with"
   pub short : length l < length (held (key_of r) j r.k (v + 1))
   -- "a refused one changes nothing"
-  pub is_refused : a ≡ refused 4 r l
+  pub is_refused : a ≡ refused 4 (reservoir_state r l)
 
 -- what an accepted admit says and leaves, by the number that is due
-pub record Admits (r : ConsistentReservoir) (a : After (Option (ℕ × ℕ))) : Type 0 where
+pub record Admits (r : ConsistentReservoir) (a : After ReservoirState (Option (ℕ × ℕ))) : Type 0 where
   -- "in is v, out the k-th of P(n)"; "With no such v: none."
   pub answer_is : a.answer ≡ result (in_and_out (key_of r) r.k r.n (due (key_of r) r.k r.n))
   -- "key, k .. as opened", "n becomes v+1"
-  pub key_is : key_of a.reservoir ≡ key_of r
-  pub k_is : a.reservoir.k ≡ r.k
-  pub n_is : a.reservoir.n ≡ n_after r.n (due (key_of r) r.k r.n)
+  pub key_is : key_of a.left.reservoir ≡ key_of r
+  pub k_is : a.left.reservoir.k ≡ r.k
+  pub n_is : a.left.reservoir.n ≡ n_after r.n (due (key_of r) r.k r.n)
   -- "becomes the layer"; with none "j becomes 14"
-  pub layer_is : j_of a.reservoir ≡ get_or (ends_at r) 14
+  pub layer_is : j_of a.left.reservoir ≡ get_or (ends_at r) 14
   -- "the list holds P(4^(j+1)) .. up to and with its k-th number below n", of the new n
-  pub kept : Kept a.reservoir a.list
+  pub kept : Kept a.left.reservoir a.left.list
 
 -- "No call writes a place past the used length it ends with.": there the list is as it was
-abbrev pub PastUsed : {A : Type 0} → List ℕ → After A → Type 0
-PastUsed l a = drop a.reservoir.used a.list ≡ drop a.reservoir.used l
+abbrev pub PastUsed : {A : Type 0} → List ℕ → After ReservoirState A → Type 0
+PastUsed l a = drop a.left.reservoir.used a.left.list ≡ drop a.left.reservoir.used l
 
 -- the same of an open, whose refusal leaves the whole list
 abbrev pub OpenedPast : List ℕ → Answer ConsistentReservoir → List ℕ → Type 0
@@ -105,7 +105,7 @@ OpenedPast l (result r) l' = drop r.used l' ≡ drop r.used l
 
 -- "So, in a record reached from open, admit brings in the smallest v from n up that is among the first k of P(v+1), and says none only
 -- where no v below 2^30 is."
-pub record Admission (key k : ℕ) (r : ConsistentReservoir) (l : List ℕ) (a : After (Option (ℕ × ℕ))) : Type 0 where
+pub record Admission (key k : ℕ) (r : ConsistentReservoir) (l : List ℕ) (a : After ReservoirState (Option (ℕ × ℕ))) : Type 0 where
   -- "key, k .. as opened"
   pub key_is : key_of r ≡ key
   pub k_is : r.k ≡ k
@@ -116,32 +116,32 @@ pub record Admission (key k : ℕ) (r : ConsistentReservoir) (l : List ℕ) (a :
   -- "4 a lent list shorter than what must be written"; else "admit brings in" what is due
   pub outcome : Short r l a ⊎ Admits r a
   -- demand 3: "An admit changes the sample by exactly the two locations it names, one out and one in, or not at all"
-  pub sample_is : Admits r a → ChangesBy (sample r l) (sample a.reservoir a.list) (in_and_out (key_of r) r.k r.n (due (key_of r) r.k r.n))
+  pub sample_is : Admits r a → ChangesBy (sample r l) (sample a.left.reservoir a.left.list) (in_and_out (key_of r) r.k r.n (due (key_of r) r.k r.n))
   -- "No call writes a place past the used length it ends with."
   pub past_used : PastUsed l a
 
 -- from an accepted open, after any list of admits and grow_layers, refused ones among them
 abbrev pub AdmissionHolds : Type 0
 AdmissionHolds =
-    (k n key : ℕ) (l : List ℕ) (t : ReservoirState) → open_call k n key l ≡ after_open (result t.reservoir) t.list → (cs : List Call)
+    (k n key : ℕ) (l : List ℕ) (t : ReservoirState) → open_call k n key l ≡ after (result t.reservoir) t.list → (cs : List Call)
     → let now = after_all cs t in
     Admission key k now.reservoir now.list (admit_call now.reservoir now.list)
 
 -- ---- grow_layer
 
 -- what an accepted growth leaves: the same key, k, n and sample, at the next layer; of a record reached from open such a record
-pub record Grows (r : ConsistentReservoir) (l : List ℕ) (a : After (Unit {0})) : Type 0 where
+pub record Grows (r : ConsistentReservoir) (l : List ℕ) (a : After ReservoirState (Unit {0})) : Type 0 where
   pub answer_is : a.answer ≡ result tt
-  pub key_is : key_of a.reservoir ≡ key_of r
-  pub k_is : a.reservoir.k ≡ r.k
-  pub n_is : a.reservoir.n ≡ r.n
-  pub j_is : j_of a.reservoir ≡ j_of r + 1
-  pub sample_is : sample a.reservoir a.list ≡ sample r l
-  pub kept : Kept r l → Kept a.reservoir a.list
+  pub key_is : key_of a.left.reservoir ≡ key_of r
+  pub k_is : a.left.reservoir.k ≡ r.k
+  pub n_is : a.left.reservoir.n ≡ r.n
+  pub j_is : j_of a.left.reservoir ≡ j_of r + 1
+  pub sample_is : sample a.left.reservoir a.left.list ≡ sample r l
+  pub kept : Kept r l → Kept a.left.reservoir a.left.list
   pub past_used : PastUsed l a
 
 -- any record and list: the growth is refused, which changes nothing, or it grows
 abbrev pub GrowthHolds : Type 0
 GrowthHolds =
     (r : ConsistentReservoir) (l : List ℕ)
-    → ((c : ℕ) × (grow_layer_call r l ≡ refused c r l)) ⊎ Grows r l (grow_layer_call r l)
+    → ((c : ℕ) × (grow_layer_call r l ≡ refused c (reservoir_state r l))) ⊎ Grows r l (grow_layer_call r l)

@@ -2,14 +2,14 @@
 -- Assumes nothing.
 use Rattle.std.specs.Prelude.{Option, None, Some, cond, List, ℕ, zero, suc, ◌-◌, ◌^◌, set}
 use Rattle.std.proofs.Math.Option.{none, some}
-use Rattle.answers.specs.Answers.{refusal, result}
+use Rattle.answers.specs.Answers.{result, refused, after}
 use Rattle.answers.specs.Steps.{Step}
 use Rattle.lists.specs.Lists.{below}
 use Rattle.layers.specs.Layer.{size, layer}
 use Rattle.orders.specs.declared.consistent_permutation.ConsistentPermutation.{ConsistentPermutation}
 use Rattle.orders.specs.declared.counters.Walked.{Walked}
 use Rattle.orders.specs.Orders.{counted, next_number}
-use Rattle.orders.specs.OrderCalls.{order_of, key_of, step, meets}
+use Rattle.orders.specs.OrderCalls.{order_of, key_of, meets}
 
 -- the counters of the layers i, i+1, .., i+c−1 each one higher
 abbrev pub raises : List ℕ → ℕ → ℕ → List ℕ
@@ -39,18 +39,18 @@ stop_of key j cs = cond (meets key j cs) None (Some (next_number key j cs).numbe
 unfoldable pub lower_step : ConsistentPermutation → ℕ → ℕ → Step ConsistentPermutation
 lower_step o i x =
     let d = next_number (key_of o) i o.counters in
-    cond (meets (key_of o) i o.counters) (step (refusal 12) o)
-    (step (result (some d.number)) (order_of (key_of o) o.n (set d.counters (suc i) x)))
+    cond (meets (key_of o) i o.counters) (refused 12 o)
+    (after (result (some d.number)) (order_of (key_of o) o.n (set d.counters (suc i) x)))
 
 -- Layer j gave an output y with top bits 00, and its counter becomes x.
 abbrev pub zero_step : ConsistentPermutation → ℕ → ℕ → ℕ → Step ConsistentPermutation
-zero_step o zero x y = step (result (some y)) (order_of (key_of o) o.n (set o.counters 0 x))
+zero_step o zero x y = after (result (some y)) (order_of (key_of o) o.n (set o.counters 0 x))
 zero_step o (suc i) x y = lower_step o i x
 
 -- what a call leaves where the walk through the top layer j ended at the input x, by the number that it found
 abbrev pub top_by : ConsistentPermutation → ℕ → ℕ → Option ℕ → Step ConsistentPermutation
-top_by o j x None = step (result none) (order_of (key_of o) o.n (set o.counters j x))
-top_by o j x (Some y) = cond (below (4 ^ j) y) (zero_step o j x y) (step (result (some y)) (order_of (key_of o) o.n (set o.counters j x)))
+top_by o j x None = after (result none) (order_of (key_of o) o.n (set o.counters j x))
+top_by o j x (Some y) = cond (below (4 ^ j) y) (zero_step o j x y) (after (result (some y)) (order_of (key_of o) o.n (set o.counters j x)))
 
 unfoldable pub top_step : ConsistentPermutation → ℕ → Walked → Step ConsistentPermutation
 top_step o j w = top_by o j w.input w.number

@@ -4,7 +4,6 @@ use Rattle.std.specs.Prelude as rust
 use Rattle.std.specs.Prelude.{Some, None, cond, List, [], ◌∷◌, ◌++◌, map, ℕ, zero, suc, ◌+◌, ◌^◌, min, ltb, eqb, length, take, drop}
 use Rattle.std.proofs.Math.Option.{Option, none, some}
 use Rattle.std.specs.Int.Bits.{bit_or}
-use Rattle.answers.specs.Answers.{Answer, refusal, result}
 use Rattle.lists.specs.Lists.{keep, below, not_below, count_below, from, up_to, replace}
 use Rattle.layers.specs.Layer.{layer}
 use Rattle.orders.specs.declared.consistent_reservoir.ConsistentReservoir.{ConsistentReservoir}
@@ -14,10 +13,6 @@ use Rattle.orders.specs.declared.checks.Survey.{Survey}
 use Rattle.orders.specs.Reservoirs.{outputs, up_to_zeros, wider}
 use Rattle.orders.specs.declared.consistent_reservoir.Exchange.{Exchange}
 use Rattle.orders.specs.ReservoirCalls.{listed, fitting}
-
--- what of an open's refusals goes by k and n: 1, 2, 3
-unfoldable pub test_of : ℕ → ℕ → Answer (Unit {0})
-test_of k n = cond (ltb (2 ^ 30) n) (refusal 1) (cond (eqb k 0) (refusal 2) (cond (ltb n k) (refusal 3) (result tt)))
 
 -- c outputs of layer i from the input x on
 abbrev pub outs : ℕ → ℕ → ℕ → ℕ → List ℕ

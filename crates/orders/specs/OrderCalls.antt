@@ -1,8 +1,8 @@
 -- What the order's calls say and leave, on any record with any fifteen counters.
 -- Assumes nothing.
 use Rattle.std.specs.Prelude.{Bool, cond, ◌&&◌, ◌||◌, List, ℕ, zero, suc, ◌-◌, ◌^◌, ltb, leb, eqb}
-use Rattle.std.proofs.Math.Option.{Option, none, some}
-use Rattle.answers.specs.Answers.{Answer, refusal, result, map_answer}
+use Rattle.std.proofs.Math.Option.{none, some}
+use Rattle.answers.specs.Answers.{Answer, refusal, result, map_answer, after, refused}
 use Rattle.answers.specs.Steps.{Step}
 use Rattle.lists.specs.Lists.{below, zero_to, every}
 use Rattle.layers.specs.Layer.{size}
@@ -24,10 +24,6 @@ new_call n key = cond (ltb (2 ^ 30) n) (refusal 1) (result (order_of key n none_
 
 -- ---- next
 
--- what it says, and the order after it
-abbrev pub step : Answer (Option ℕ) → ConsistentPermutation → Step ConsistentPermutation
-step t o = record { said = t; walk = o }
-
 -- 12: "any of the fifteen counters above its layer's size"
 unfoldable pub within : List ℕ → Bool
 within cs = every (λ j. leb (counter cs j) (size j)) (zero_to 15)
@@ -40,22 +36,22 @@ meets key (suc j) cs = leb (size (suc j)) (counter cs (suc j)) || (zero_top (suc
 -- "what the layer of n gives until its counter is 4^(j+1), numbers of n or more dropped": the first of it, where c inputs of
 -- the layer are left. A refusal leaves the order as it was.
 abbrev pub first_of : ConsistentPermutation → ℕ → ℕ → List ℕ → Step ConsistentPermutation
-first_of o j zero cs = step (result none) (order_of (key_of o) o.n cs)
+first_of o j zero cs = after (result none) (order_of (key_of o) o.n cs)
 first_of o j (suc c) cs =
     let d = next_number (key_of o) j cs in
     let later = first_of o j c d.counters in
-    cond (meets (key_of o) j cs) (step (refusal 12) o)
-    (cond (below o.n d.number) (step (result (some d.number)) (order_of (key_of o) o.n d.counters)) later)
+    cond (meets (key_of o) j cs) (refused 12 o)
+    (cond (below o.n d.number) (after (result (some d.number)) (order_of (key_of o) o.n d.counters)) later)
 
 -- "A next for n = 0 says none and changes no counter."
 unfoldable pub next_call : ConsistentPermutation → Step ConsistentPermutation
 next_call o =
     let j = layer_of o.n in
     cond (within o.counters)
-    (cond (ltb (2 ^ 30) o.n) (step (refusal 1) o)
-    (cond (eqb o.n 0) (step (result none) o)
+    (cond (ltb (2 ^ 30) o.n) (refused 1 o)
+    (cond (eqb o.n 0) (after (result none) o)
     (first_of o j (size j - counter o.counters j) o.counters)))
-    (step (refusal 12) o)
+    (refused 12 o)
 
 -- ---- many calls of next: the tests that come before the first output are made once
 

@@ -3,7 +3,8 @@ ghost use Rattle.std.specs.Prelude.{◌≡◌, true, ◌-◌, ◌^◌, ◌<◌, 
 ghost use Rattle.answers.specs.Refusals.{answer_of, answer_of_option};
 ghost use Rattle.layers.specs.Layer.{size};
 ghost use Rattle.orders.specs.Orders.{layer_of, counter};
-ghost use Rattle.orders.specs.OrderCalls.{new_call, step, within, first_of, next_call, tested};
+ghost use Rattle.answers.specs.Answers.{after};
+ghost use Rattle.orders.specs.OrderCalls.{new_call, within, first_of, next_call, tested};
 ghost use Rattle.orders.specs.InnerCounters.{lower_step};
 
 use crate::counters;
@@ -41,7 +42,7 @@ impl ConsistentPermutation {
     // refused 1. A refusal leaves the order as it was. A call of its own: put into a caller, it would work on a copy of the counters.
     #[inline(never)]
     pub fn next(&mut self) -> Result<Option<u32>, Refusal>
-        ensures { step (answer_of_option result) self.new ≡ next_call self.old }
+        ensures { after (answer_of_option result) self.new ≡ next_call self.old }
     {
         self.tested()?;
         if self.n == 0 {
@@ -81,7 +82,7 @@ impl ConsistentPermutation {
         requires some { 0 < self.old.n }
         requires limit { self.old.n ≤ 2 ^ 30 }
         requires fit { within self.old.counters ≡ true }
-        ensures { step (answer_of_option result) self.new ≡ first_of self.old top.now.layer.number (size top.now.layer.number - counter self.old.counters top.now.layer.number) self.old.counters }
+        ensures { after (answer_of_option result) self.new ≡ first_of self.old top.now.layer.number (size top.now.layer.number - counter self.old.counters top.now.layer.number) self.old.counters }
     {
         let j = top.layer;
         let from = counters::counter_at(&self.counters, j);
@@ -101,7 +102,7 @@ impl ConsistentPermutation {
     fn lower(&mut self, top: Layer, x: u32) -> Result<Option<u32>, Refusal>
         requires above { 0 < top.number }
         requires fit { within self.old.counters ≡ true }
-        ensures { step (answer_of_option result) self.new ≡ lower_step self.old (top.number - 1) x }
+        ensures { after (answer_of_option result) self.new ≡ lower_step self.old (top.number - 1) x }
     {
         let below = Layer {
             number: top.number - 1,

@@ -1,12 +1,13 @@
 // The reservoir of document 01: k of n locations, and which come in as n grows. The locations stand in a list that is lent to
 // each call.
-ghost use Rattle.std.specs.Prelude.{◌≡◌, ◌+◌, ◌<◌, ◌≤◌, true};
-ghost use Rattle.answers.specs.Answers.{map_answer};
+ghost use Rattle.std.specs.Prelude.{◌≡◌, ◌+◌, ◌^◌, ◌<◌, ◌≤◌, true};
+ghost use Rattle.answers.specs.Answers.{map_answer, after};
+ghost use Rattle.answers.specs.Making.{short_refusal};
 ghost use Rattle.answers.specs.Answers as Answers;
 ghost use Rattle.answers.specs.Refusals.{number, answer_of};
 ghost use Rattle.orders.specs.Reservoirs.{grown};
-ghost use Rattle.orders.specs.ReservoirCalls.{key_of, j_of, listed, fitting, after_open, open_call, short_refusal, answer_of_exchange, after, exchange, admit_call, grow_to, grow_layer_call, after_sample, sample_call};
-ghost use Rattle.orders.specs.InnerPasses.{test_of, wide_of, low_of, exchanged};
+ghost use Rattle.orders.specs.ReservoirCalls.{key_of, j_of, listed, fitting, reservoir_state, open_call, answer_of_exchange, exchange, admit_call, grow_to, grow_layer_call, sample_call};
+ghost use Rattle.orders.specs.InnerPasses.{wide_of, low_of, exchanged};
 
 use crate::layer::Layer;
 use crate::outputs::Outputs;
@@ -42,9 +43,9 @@ impl ConsistentReservoir {
 
     // Open with k of n: refusals 1, 2, 3, 4.
     pub fn new(k: u32, n: u32, key: u64, list: &mut [u32]) -> Result<Self, Refusal>
-        ensures { after_open (answer_of result) list.new ≡ open_call k n key list.old }
+        ensures { after (answer_of result) list.new ≡ open_call k n key list.old }
     {
-        Self::tested(k, n)?;
+        answers::test_sizes(u64::from(Self::N_LIMIT), 1, u64::from(k), u64::from(n))?;
         // The used length is at least k, so that a list too short for k is known before the scan.
         if list.len() < (k as usize) {
             return Err(Refusal::ShortMemory);
@@ -66,28 +67,9 @@ impl ConsistentReservoir {
 
     // The refusal of an open with k of n for which some memory is too short: 1, 2, 3, else 4.
     pub fn short_refusal(k: u32, n: u32) -> Refusal
-        ensures { number result ≡ short_refusal k n }
+        ensures { number result ≡ short_refusal (2 ^ 30) 1 k n }
     {
-        match Self::tested(k, n) {
-            Ok(()) => Refusal::ShortMemory,
-            Err(why) => why,
-        }
-    }
-
-    // The refusals of an open that go by k and n: 1, 2, 3.
-    fn tested(k: u32, n: u32) -> Result<(), Refusal>
-        ensures { answer_of result ≡ test_of k n }
-    {
-        if Self::N_LIMIT < n {
-            return Err(Refusal::NAboveLimit);
-        }
-        if k == 0 {
-            return Err(Refusal::KIsZero);
-        }
-        if n < k {
-            return Err(Refusal::KAboveN);
-        }
-        Ok(())
+        answers::short_refusal(u64::from(Self::N_LIMIT), 1, u64::from(k), u64::from(n))
     }
 
     // Whether the record fits its list: refusal 12 of the other calls.
@@ -99,7 +81,7 @@ impl ConsistentReservoir {
 
     // Admit: refusals 12, 4.
     pub fn next(&mut self, list: &mut [u32]) -> Result<Option<Exchange>, Refusal>
-        ensures { after (answer_of_exchange result) self.new list.new ≡ admit_call self.old list.old }
+        ensures { after (answer_of_exchange result) (reservoir_state self.new list.new) ≡ admit_call self.old list.old }
     {
         let Some(low) = checks::checked(*self, list) else {
             return Err(Refusal::Misfit);
@@ -121,7 +103,7 @@ impl ConsistentReservoir {
         requires fit { fitting self.old list.now ≡ true }
         requires more { self.old.k < self.old.used }
         requires low { v ≡ low_of self.old.n (listed self.old list.now) }
-        ensures { after (Answers.result (exchanged result)) self.new list.now ≡ exchange self.old (j_of self.old) (listed self.old list.now) list.now }
+        ensures { after (Answers.result (exchanged result)) (reservoir_state self.new list.now) ≡ exchange self.old (j_of self.old) (listed self.old list.now) list.now }
     {
         let last = self.used as usize - 1;
         self.used = scans::standing(&list[..last], v, self.k);
@@ -137,7 +119,7 @@ impl ConsistentReservoir {
         requires fit { fitting self.old list.old ≡ true }
         requires full { self.old.used ≤ self.old.k }
         requires wide { Some w ≡ wide_of (key_of self.old) self.old.k (j_of self.old) }
-        ensures { after (map_answer exchanged (answer_of result)) self.new list.new ≡ exchange self.old w.layer (grown (key_of self.old) w.layer self.old.k (listed self.old list.old)) list.old }
+        ensures { after (map_answer exchanged (answer_of result)) (reservoir_state self.new list.new) ≡ exchange self.old w.layer (grown (key_of self.old) w.layer self.old.k (listed self.old list.old)) list.old }
     {
         let outputs = Outputs::new(Layer { number: w.layer }, self.master_key);
         let enters = w.low;
@@ -156,7 +138,7 @@ impl ConsistentReservoir {
 
     // The step to the next layer: refusals 12, 7, 8, 4.
     pub fn grow_layer(&mut self, list: &mut [u32]) -> Result<(), Refusal>
-        ensures { after (answer_of result) self.new list.new ≡ grow_layer_call self.old list.old }
+        ensures { after (answer_of result) (reservoir_state self.new list.new) ≡ grow_layer_call self.old list.old }
     {
         if !self.fits(list) {
             return Err(Refusal::Misfit);
@@ -175,7 +157,7 @@ impl ConsistentReservoir {
         requires fit { fitting self.old list.old ≡ true }
         requires full { self.old.used ≤ self.old.k }
         requires layer { j_of self.old < 14 }
-        ensures { after (answer_of result) self.new list.new ≡ grow_to self.old (grown (key_of self.old) (j_of self.old + 1) self.old.k (listed self.old list.old)) list.old }
+        ensures { after (answer_of result) (reservoir_state self.new list.new) ≡ grow_to self.old (grown (key_of self.old) (j_of self.old + 1) self.old.k (listed self.old list.old)) list.old }
     {
         let layer = Layer {
             number: self.j_max + 1,
@@ -193,7 +175,7 @@ impl ConsistentReservoir {
 
     // The sample, in the first k places of another list: refusals 12, 4.
     pub fn reservoir(self, list: &[u32], out: &mut [u32]) -> Result<(), Refusal>
-        ensures { after_sample (answer_of result) out.new ≡ sample_call self list.now out.old }
+        ensures { after (answer_of result) out.new ≡ sample_call self list.now out.old }
     {
         if !self.fits(list) {
             return Err(Refusal::Misfit);

@@ -1,9 +1,9 @@
 // An order walked over many numbers: the tests of `next` and the record of its layer are made once.
 ghost use Rattle.std.specs.Prelude.{◌≡◌, true, ◌^◌, ◌≤◌};
-ghost use Rattle.answers.specs.Answers.{map_answer};
+ghost use Rattle.answers.specs.Answers.{after, map_answer};
 ghost use Rattle.answers.specs.Refusals.{answer_of, answer_of_option};
 ghost use Rattle.orders.specs.Orders.{layer_of};
-ghost use Rattle.orders.specs.OrderCalls.{step, within, next_call, walk_new_call};
+ghost use Rattle.orders.specs.OrderCalls.{within, next_call, walk_new_call};
 
 use crate::consistent_permutation::ConsistentPermutation;
 use crate::outputs::Outputs;
@@ -34,7 +34,7 @@ impl OrderWalk {
     // the walk as it was.
     #[inline]
     pub fn next(&mut self) -> Result<Option<u32>, Refusal>
-        ensures { step (answer_of_option result) self.new.order ≡ next_call self.old.order }
+        ensures { after (answer_of_option result) self.new.order ≡ next_call self.old.order }
     {
         if self.order.n == 0 {
             return Ok(None);

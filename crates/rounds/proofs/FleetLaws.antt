@@ -143,11 +143,11 @@ shown_alike s t g h a b e =
     let v = shown_is t h b in
     record { key = u.key ∙ e.key ∙ sym v.key; k = u.k ∙ e.k ∙ sym v.k; n = u.n ∙ e.n ∙ sym v.n; active = λ x. u.active x ∙ e.set x ∙ sym (v.active x) }
 
-alike_next : (s t : State) → Kept s → Kept t → Alike s t → (x : Call) → (call s x).answer ≡ (call t x).answer → Alike (call s x).state (call t x).state
+alike_next : (s t : State) → Kept s → Kept t → Alike s t → (x : Call) → (call s x).answer ≡ (call t x).answer → Alike (call s x).left (call t x).left
 alike_next s t a b e x q =
-    let h : Shows (call t x).state (fed (own t) x (is_refusal (call t x).answer)) = (step t (own t) (shows_own t b) x).1 in
-    shown_alike (call s x).state (call t x).state (fed (own s) x (is_refusal (call s x).answer)) (fed (own t) x (is_refusal (call s x).answer))
-    (step s (own s) (shows_own s a) x).1 (subst (λ (w : Answer (List ℕ)). Shows (call t x).state (fed (own t) x (is_refusal w))) (sym q) h)
+    let h : Shows (call t x).left (fed (own t) x (is_refusal (call t x).answer)) = (step t (own t) (shows_own t b) x).1 in
+    shown_alike (call s x).left (call t x).left (fed (own s) x (is_refusal (call s x).answer)) (fed (own t) x (is_refusal (call s x).answer))
+    (step s (own s) (shows_own s a) x).1 (subst (λ (w : Answer (List ℕ)). Shows (call t x).left (fed (own t) x (is_refusal w))) (sym q) h)
     (fed_alike (own s) (own t) (own_alike s t e) x (is_refusal (call s x).answer))
 
 -- ---- what both say
@@ -196,7 +196,7 @@ together_none : (s t : State) → Reached s → Reached t → Alike s t → Toge
 unfolding all_said after_all
 together_none s t r u e = record { answers = refl; one = r; other = u; alike = e }
 
-together_next : (s t : State) (x : Call) (xs : List Call) → (call s x).answer ≡ (call t x).answer → Together (call s x).state (call t x).state xs → Together s t (x ∷ xs)
+together_next : (s t : State) (x : Call) (xs : List Call) → (call s x).answer ≡ (call t x).answer → Together (call s x).left (call t x).left xs → Together s t (x ∷ xs)
 unfolding all_said after_all
 together_next s t x xs q h = record { answers = λ i. q i ∷ h.answers i; one = h.one; other = h.other; alike = h.alike }
 
@@ -208,7 +208,7 @@ same_together [] s t r u e l b = together_none s t r u e
 same_together (x ∷ xs) s t r u e l b =
     let q = same_lengths s t r u e x l b in
     together_next s t x xs q
-    (same_together xs (call s x).state (call t x).state (reached_call s r x) (reached_call t u x) (alike_next s t (reached_kept s r) (reached_kept t u) e x q)
+    (same_together xs (call s x).left (call t x).left (reached_call s r x) (reached_call t u x) (alike_next s t (reached_kept s r) (reached_kept t u) e x q)
     (step_length s x ∙ l ∙ sym (step_length t x)) (step_bytes s x ∙ b ∙ sym (step_bytes t x)))
 
 never_together : (calls : List Call) (s t : State) → Reached s → Reached t → Alike s t → NeverShort (all_said s calls) → NeverShort (all_said t calls) → Together s t calls
@@ -217,7 +217,7 @@ never_together [] s t r u e a b = together_none s t r u e
 never_together (x ∷ xs) s t r u e a b =
     let q = never_short s t r u e x a.0 a.1 b.0 b.1 in
     together_next s t x xs q
-    (never_together xs (call s x).state (call t x).state (reached_call s r x) (reached_call t u x) (alike_next s t (reached_kept s r) (reached_kept t u) e x q) a.2 b.2)
+    (never_together xs (call s x).left (call t x).left (reached_call s r x) (reached_call t u x) (alike_next s t (reached_kept s r) (reached_kept t u) e x q) a.2 b.2)
 
 -- ---- an open at the n reached
 

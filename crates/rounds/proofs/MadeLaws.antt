@@ -5,8 +5,8 @@ use mathlib.Core.List.{List, [], ◌∷◌, ◌++◌}
 use Prim.Native.Nat.{ℕ}
 use Rattle.std.proofs.Math.Path.{subst₂}
 use Rattle.answers.specs.Refusals.{number, answer_of}
-use Rattle.answers.specs.Answers.{Answer, refusal, is_refusal}
-use Rattle.rounds.specs.Rounds.{State, After, after}
+use Rattle.answers.specs.Answers.{Answer, refusal, is_refusal, after, After}
+use Rattle.rounds.specs.Rounds.{State}
 use Rattle.rounds.specs.Ledgers.{Call, Ledger, first_ledger, fed, fed_all}
 use Rattle.rounds.specs.Histories.{Made, AllMade, made_none, made_next, refusals, call}
 use Rattle.rounds.specs.Demand3.{Agree, Reached, ledger_of}
@@ -25,7 +25,7 @@ pub made_counts : {s t : State} {x : Call} {w : Answer (List ℕ)} → Made s x 
 made_counts m = as_call (made_is m)
 
 counts_step : {s t : State} {x : Call} {w : Answer (List ℕ)} (g : Ledger) → Shows s g → Counts s x w t → Follows g x w t
-counts_step {s = s} {x = x} g h (as_call e) = subst (λ (a : After (List ℕ)). Follows g x a.answer a.state) (sym e) (step s g h x)
+counts_step {s = s} {x = x} g h (as_call e) = subst (λ (a : After State (List ℕ)). Follows g x a.answer a.left) (sym e) (step s g h x)
 counts_step {x = x} g h (as_none number answer_of left) = subst₂ (Follows g x) (sym answer_of) (sym left) (tt, h)
 
 -- THE STEP: the answer is the ledger's where it is no refusal, and what stands after the call shows the ledger fed with it
@@ -69,5 +69,5 @@ reached_more {x = x} {w = w} h m =
     }
 
 -- the model's call
-pub reached_call : (s : State) → Reached s → (x : Call) → Reached (call s x).state
+pub reached_call : (s : State) → Reached s → (x : Call) → Reached (call s x).left
 reached_call s h x = reached_more h (call_made s x)

@@ -9,7 +9,7 @@ use native.Mathlib.Omega.{arith}
 use borrow.Author.Tests.{lt-ltb, le-ltb}
 use lib.Dec.{eqb}
 use lib.ListN.{length}
-use Rattle.answers.specs.Answers.{refusal, result}
+use Rattle.answers.specs.Answers.{refusal, result, after}
 use Rattle.lists.specs.Lists.{written}
 use Rattle.answers.proofs.AnswerLaws.{not_said, refusal_same}
 use Rattle.lists.proofs.Tests.{by_test}
@@ -23,7 +23,7 @@ use Rattle.choosers.specs.SlotCalls.{slot_limit}
 use Rattle.choosers.proofs.GetLaws.{look_all}
 use Rattle.rounds.specs.declared.round.Round.{Round}
 use Rattle.rounds.specs.Rounds.{reservoir_of, map_of, state, fitting}
-use Rattle.rounds.specs.Plans.{after_plan, terminal_of, plan_call}
+use Rattle.rounds.specs.Plans.{terminal_of, plan_call, plan_lists}
 use Rattle.rounds.specs.InnerRounds.{idle_of, dealt_to}
 use Rattle.rounds.proofs.RoundCallLaws.{fits_both}
 
@@ -63,27 +63,27 @@ deal_room r l t ls ts idle y a b =
 -- ---- the answers
 
 module _ (r : Round) (l t ls ts : List ℕ) (places : ℕ) where
-  pub plan_unfit : (w : ℕ) → (fitting (state r l t) ≡ false) × (w ≡ 12) → after_plan (refusal w) ls ts ≡ plan_call (state r l t) ls ts places
+  pub plan_unfit : (w : ℕ) → (fitting (state r l t) ≡ false) × (w ≡ 12) → after (refusal w) (plan_lists ls ts) ≡ plan_call (state r l t) ls ts places
   unfolding plan_call
   plan_unfit w e = rw (e.0, e.1)
 
   module _ (idle : Bool) (y : Ready r l t idle) where
-    pub few_locations : length ls < r.k → after_plan (refusal 4) ls ts ≡ plan_call (state r l t) ls ts places
+    pub few_locations : length ls < r.k → after (refusal 4) (plan_lists ls ts) ≡ plan_call (state r l t) ls ts places
     unfolding plan_call
     few_locations h = rw (y.fits, lt-ltb (length ls) r.k h)
 
     module _ (a : r.k ≤ length ls) where
-      pub few_terminals : length ts < r.k → after_plan (refusal 4) ls ts ≡ plan_call (state r l t) ls ts places
+      pub few_terminals : length ts < r.k → after (refusal 4) (plan_lists ls ts) ≡ plan_call (state r l t) ls ts places
       unfolding plan_call
       few_terminals h = rw (y.fits, le-ltb (length ls) r.k a, lt-ltb (length ts) r.k h)
 
       module _ (b : r.k ≤ length ts) where
-        pub few_places : places < min (length t) slot_limit → after_plan (refusal 4) ls ts ≡ plan_call (state r l t) ls ts places
+        pub few_places : places < min (length t) slot_limit → after (refusal 4) (plan_lists ls ts) ≡ plan_call (state r l t) ls ts places
         unfolding plan_call
         few_places h = rw (y.fits, le-ltb (length ls) r.k a, le-ltb (length ts) r.k b, lt-ltb places (min (length t) slot_limit) h)
 
         module _ (c : min (length t) slot_limit ≤ places) where
-          pub plan_none : idle ≡ true → after_plan (refusal 11) ls ts ≡ plan_call (state r l t) ls ts places
+          pub plan_none : idle ≡ true → after (refusal 11) (plan_lists ls ts) ≡ plan_call (state r l t) ls ts places
           unfolding plan_call
           plan_none e = rw (y.fits, le-ltb (length ls) r.k a, le-ltb (length ts) r.k b, le-ltb places (min (length t) slot_limit) c, y.none, e)
 
@@ -95,9 +95,9 @@ module _ (r : Round) (l t ls ts : List ℕ) (places : ℕ) where
           pub plan_done : idle ≡ false → (locations terminals : List ℕ)
               → (locations ≡ written (sample (reservoir_of r) l) ls)
               × (terminals ≡ written (map (dealt_to r.master_key r.total t places) (sample (reservoir_of r) l)) ts)
-              → after_plan (result tt) locations terminals ≡ plan_call (state r l t) ls ts places
+              → after (result tt) (plan_lists locations terminals) ≡ plan_call (state r l t) ls ts places
           unfolding plan_call
           plan_done e locations terminals d =
-              (λ i. after_plan (result tt) (d.0 i) (d.1 i))
-              ∙ ap (λ (f : ℕ → ℕ). after_plan (result tt) (written (sample (reservoir_of r) l) ls) (written (map f (sample (reservoir_of r) l)) ts)) (fun_ext dealt_slot)
+              (λ i. after (result tt) (plan_lists (d.0 i) (d.1 i)))
+              ∙ ap (λ (f : ℕ → ℕ). after (result tt) (plan_lists (written (sample (reservoir_of r) l) ls) (written (map f (sample (reservoir_of r) l)) ts))) (fun_ext dealt_slot)
               ∙ rw (y.fits, le-ltb (length ls) r.k a, le-ltb (length ts) r.k b, le-ltb places (min (length t) slot_limit) c, y.none, e)

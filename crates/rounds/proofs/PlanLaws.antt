@@ -9,7 +9,7 @@ use Prim.Native.Nat.{ℕ, min}
 use borrow.Author.Tests.{le-ltb}
 use lib.Dec.{eqb}
 use lib.ListN.{length, length-map}
-use Rattle.answers.specs.Answers.{refusal, result}
+use Rattle.answers.specs.Answers.{refusal, result, after}
 use Rattle.lists.specs.Lists.{written}
 use Rattle.lists.proofs.Tests.{by_test}
 use Rattle.lists.proofs.Having.{has_head}
@@ -20,7 +20,7 @@ use Rattle.choosers.specs.SlotCalls as Slots
 use Rattle.choosers.proofs.SlotLaws.{holder_slot, slot_some}
 use Rattle.rounds.specs.Rounds.{reservoir_of, State}
 use Rattle.rounds.specs.Ledgers.{Ledger, Sheet, sheet, plan_from, ledger_plan}
-use Rattle.rounds.specs.Plans.{after_plan, sampled, terminal_of, plan_call, sheets, shown_plan}
+use Rattle.rounds.specs.Plans.{sampled, terminal_of, plan_call, sheets, shown_plan, plan_lists}
 use Rattle.rounds.specs.Demand3.{Enough}
 use Rattle.rounds.proofs.RoundLaws.{Kept, actives_of, Shows, fits_kept}
 use Rattle.rounds.proofs.LedgerLaws.{plan_of_same}
@@ -31,13 +31,13 @@ sheets_map : (f : ℕ → ℕ) (xs : List ℕ) → sheets xs (map f xs) ≡ map 
 sheets_map f [] = refl
 sheets_map f (x ∷ xs) = ap (λ (r : List Sheet). sheet x (some (f x)) ∷ r) (sheets_map f xs)
 
-shown_refusal : (k w : ℕ) (ls ts : List ℕ) → shown_plan k (after_plan (refusal w) ls ts) ≡ refusal w
+shown_refusal : (k w : ℕ) (ls ts : List ℕ) → shown_plan k (after (refusal w) (plan_lists ls ts)) ≡ refusal w
 unfolding shown_plan
 shown_refusal k w ls ts = refl
 
 -- what stands in the first k places
 pub shown_sheets : (k : ℕ) (f : ℕ → ℕ) (xs ls ts : List ℕ) → length xs ≡ k
-    → shown_plan k (after_plan (result tt) (written xs ls) (written (map f xs) ts)) ≡ result (map (λ x. sheet x (some (f x))) xs)
+    → shown_plan k (after (result tt) (plan_lists (written xs ls) (written (map f xs) ts))) ≡ result (map (λ x. sheet x (some (f x))) xs)
 unfolding shown_plan
 shown_sheets k f xs ls ts e =
     rw (written_take k xs ls e, written_take k (map f xs) ts (length-map xs f ∙ e)) (ap result (sheets_map f xs))
@@ -64,7 +64,7 @@ terminal_slot s e x =
 module _ (s : State) (kept : Kept s) (ls ts : List ℕ) (places : ℕ) (enough : Enough s.round.k (length s.table) ls ts places) where
   -- 12 and 4 are not met
   accepted : plan_call s ls ts places
-      ≡ cond (eqb (length (actives_of s)) 0) (after_plan (refusal 11) ls ts) (after_plan (result tt) (written (sampled s) ls) (written (map (terminal_of s) (sampled s)) ts))
+      ≡ cond (eqb (length (actives_of s)) 0) (after (refusal 11) (plan_lists ls ts)) (after (result tt) (plan_lists (written (sampled s) ls) (written (map (terminal_of s) (sampled s)) ts)))
   unfolding plan_call
   accepted =
       rw (

@@ -8,7 +8,7 @@ use Prim.Native.Nat.{ℕ, ◌≤◌, min}
 use native.Mathlib.Omega.{arith}
 use lib.Dec.{leb, ltb, eqb}
 use lib.ListN.{length}
-use Rattle.answers.specs.Answers.{Answer, refusal, result}
+use Rattle.answers.specs.Answers.{Answer, refusal, result, After}
 use Rattle.lists.specs.Lists.{has}
 use Rattle.answers.proofs.AnswerLaws.{not_said, refusal_same}
 use Rattle.lists.proofs.Tests.{by_cond}
@@ -17,7 +17,7 @@ use Rattle.choosers.specs.SlotCalls as Slots
 use Rattle.choosers.proofs.GetLaws.{get_slot}
 use Rattle.rounds.specs.Rounds.{State, map_of}
 use Rattle.rounds.specs.Ledgers.{Call, admit, join, withdraw, Ledger, due_in, free_slot, answer}
-use Rattle.rounds.specs.Plans.{AfterPlan, terminal_of, plan_call}
+use Rattle.rounds.specs.Plans.{terminal_of, plan_call, PlanLists}
 use Rattle.rounds.specs.Histories.{call}
 use Rattle.rounds.specs.Demand3.{Reached, ledger_of}
 use Rattle.rounds.specs.Outcomes.{too_short, reply, Outcomes}
@@ -48,10 +48,10 @@ pub plan_never_12 : (s : State) → Reached s → (ls ts : List ℕ) (places : �
 unfolding plan_call
 plan_never_12 s r ls ts places =
     rw (fits_kept s (reached_kept s r))
-    (by_cond (λ (a : AfterPlan). a.answer ≢ refusal 12)
+    (by_cond (λ (a : After PlanLists (Unit {0})). a.answer ≢ refusal 12)
     (ltb (length ls) s.round.k || ltb (length ts) s.round.k || ltb places (min (length s.table) Slots.slot_limit)) _ _
     (λ y e. let z : 4 ≡ 12 = refusal_same 4 12 e in omega arith)
-    (λ n. by_cond (λ (a : AfterPlan). a.answer ≢ refusal 12) (eqb (length (actives_of s)) 0) _ _
+    (λ n. by_cond (λ (a : After PlanLists (Unit {0})). a.answer ≢ refusal 12) (eqb (length (actives_of s)) 0) _ _
     (λ y e. let z : 11 ≡ 12 = refusal_same 11 12 e in omega arith)
     (λ n e. not_said 12 tt (sym e))))
 

@@ -4,30 +4,30 @@ use mathlib.Core.Path.{◌≡◌, refl, sym, ap, subst, ◌∙◌}
 use mathlib.Core.Logic.{⊎_elim, ◌≢◌}
 use mathlib.Core.Bool.{Bool, true, false, ◌||◌}
 use mathlib.Core.List.{List, [], ◌∷◌, ◌++◌, map, append_assoc}
-use Prim.Native.Nat.{ℕ, ◌+◌, ◌*◌, min}
+use Prim.Native.Nat.{ℕ, ◌+◌, ◌*◌, min, ◌^◌}
 use native.Mathlib.Omega.{arith}
 use Rattle.std.proofs.Math.Path.{subst₂}
 use borrow.Author.Tests.{lt-ltb, le-ltb}
 use lib.Dec.{ltb, eqb}
 use lib.ListN.{length, drop, length-map}
-use Rattle.answers.specs.Answers.{Answer, refusal, result, map_answer, is_refusal}
+use Rattle.answers.specs.Answers.{Answer, refusal, result, map_answer, is_refusal, After, after}
 use Rattle.lists.specs.Lists.{every, written}
 use Rattle.answers.proofs.AnswerLaws.{not_said}
 use Rattle.lists.proofs.Tests.{by_below, by_cond}
 use Rattle.lists.proofs.Writing.{length_written}
 use Rattle.orders.proofs.ReservoirLaws.{sample_length}
-use Rattle.orders.specs.ReservoirCalls.{short_refusal}
 use Rattle.std.specs.Prelude.{Result, Ok, Err}
 use Rattle.answers.specs.declared.Refusal.{Refusal}
 use Rattle.answers.specs.Refusals.{answer_of}
+use Rattle.answers.specs.Making.{short_refusal}
 use Rattle.choosers.specs.SlotCalls as Slots
 use Rattle.rounds.specs.declared.round.Round.{Round}
-use Rattle.rounds.specs.Rounds.{reservoir_of, State, state, After, AfterOpen, after_open, open_call, fitting}
-use Rattle.rounds.specs.Plans.{AfterPlan, after_plan, sampled, terminal_of, plan_call, shown_plan}
+use Rattle.rounds.specs.Rounds.{reservoir_of, State, state, open_call, fitting}
+use Rattle.rounds.specs.Plans.{sampled, terminal_of, plan_call, shown_plan, PlanLists, plan_lists}
 use Rattle.rounds.specs.Ledgers.{Call, admit, join, withdraw, Ledger, first_ledger, accept, ledger_plan, fed, fed_all}
 use Rattle.rounds.specs.Histories.{nothing_said, Opens, refusals, call, after_all, all_said}
 use Rattle.rounds.specs.Demand3.{Agree, Enough}
-use Rattle.rounds.specs.Replays.{known, call_of, coded, coded_all, read_one, read_all, AfterReplay, after_replay, run_of, opened_run, replay_call, planned_in, ByLedger, Replayed}
+use Rattle.rounds.specs.Replays.{known, call_of, coded, coded_all, read_one, read_all, run_of, opened_run, replay_call, planned_in, ByLedger, Replayed, ReplayMemory, replay_memory}
 use Rattle.rounds.proofs.RoundLaws.{Kept, actives_of, Shows, open_shows}
 use Rattle.rounds.proofs.StepLaws.{possible, Refuses, Takes, outcome, step, step_bytes}
 use Rattle.rounds.proofs.PlanLaws.{plan_is}
@@ -45,29 +45,29 @@ possible_some (withdraw x) e = omega arith
 one_readable : (s : State) (g : Ledger) → Shows s g → (x : Call) → Readable (call s x).answer
 one_readable s g h x =
     ⊎_elim
-    (λ (r : Refuses s g x (call s x)). subst (λ (a : After (List ℕ)). Readable a.answer) (sym r.is) (possible_some x))
+    (λ (r : Refuses s g x (call s x)). subst (λ (a : After State (List ℕ)). Readable a.answer) (sym r.is) (possible_some x))
     (λ (t : Takes s g x (call s x)). subst Readable (sym t.answer_is) (answer_readable g x))
     (outcome s g h x)
 
 all_readable : (calls : List Call) (s : State) (g : Ledger) → Shows s g → AllReadable (all_said s calls)
 unfolding all_said
 all_readable [] s g h = tt
-all_readable (x ∷ xs) s g h = (one_readable s g h x, all_readable xs (call s x).state (fed g x (is_refusal (call s x).answer)) (step s g h x).1)
+all_readable (x ∷ xs) s g h = (one_readable s g h x, all_readable xs (call s x).left (fed g x (is_refusal (call s x).answer)) (step s g h x).1)
 
 length_said : (calls : List Call) (s : State) → length (all_said s calls) ≡ length calls
 unfolding all_said
 length_said [] s = refl
-length_said (x ∷ xs) s = omega (arith, length_said xs (call s x).state)
+length_said (x ∷ xs) s = omega (arith, length_said xs (call s x).left)
 
 -- a plan's refusal has a number above 0
 plan_readable : (s : State) (ls ts : List ℕ) (places : ℕ) → Readable (map_answer nothing_said (plan_call s ls ts places).answer)
 unfolding plan_call
 plan_readable s ls ts places =
-    by_cond (λ (a : AfterPlan). Readable (map_answer nothing_said a.answer)) (fitting s) _ _
-    (λ y. by_cond (λ (a : AfterPlan). Readable (map_answer nothing_said a.answer))
+    by_cond (λ (a : After PlanLists (Unit {0})). Readable (map_answer nothing_said a.answer)) (fitting s) _ _
+    (λ y. by_cond (λ (a : After PlanLists (Unit {0})). Readable (map_answer nothing_said a.answer))
     (ltb (length ls) s.round.k || ltb (length ts) s.round.k || ltb places (min (length s.table) Slots.slot_limit)) _ _
     (λ y. (λ e. omega arith))
-    (λ n. by_cond (λ (a : AfterPlan). Readable (map_answer nothing_said a.answer)) (eqb (length (actives_of s)) 0) _ _
+    (λ n. by_cond (λ (a : After PlanLists (Unit {0})). Readable (map_answer nothing_said a.answer)) (eqb (length (actives_of s)) 0) _ _
     (λ y. (λ e. omega arith))
     (λ n. tt)))
     (λ n. (λ e. omega arith))
@@ -78,7 +78,7 @@ answer_back (result u) = refl
 
 -- the lists keep their lengths
 pub plan_lengths : (s : State) → Kept s → (ls ts : List ℕ) (places : ℕ)
-    → (length (plan_call s ls ts places).locations ≡ length ls) × (length (plan_call s ls ts places).terminals ≡ length ts)
+    → (length (plan_call s ls ts places).left.locations ≡ length ls) × (length (plan_call s ls ts places).left.terminals ≡ length ts)
 unfolding plan_call
 plan_lengths s kept ls ts places =
     by_cond Same (fitting s) _ _
@@ -93,8 +93,8 @@ plan_lengths s kept ls ts places =
     (λ n. (length_written (sampled s) ls (omega (arith, long)), length_written (map (terminal_of s) (sampled s)) ts (omega (arith, long, length-map (sampled s) (terminal_of s)))))))))
     (λ n. (refl, refl))
   where
-    Same : AfterPlan → Type 0
-    Same a = (length a.locations ≡ length ls) × (length a.terminals ≡ length ts)
+    Same : After PlanLists (Unit {0}) → Type 0
+    Same a = (length a.left.locations ≡ length ls) × (length a.left.terminals ≡ length ts)
 
     long : length (sampled s) ≡ s.round.k
     long = sample_length (reservoir_of s.round) s.list kept.list
@@ -103,7 +103,7 @@ plan_lengths s kept ls ts places =
 all_bytes : (calls : List Call) (s : State) → length (after_all s calls).table ≡ length s.table
 unfolding after_all
 all_bytes [] s = refl
-all_bytes (x ∷ xs) s = all_bytes xs (call s x).state ∙ step_bytes s x
+all_bytes (x ∷ xs) s = all_bytes xs (call s x).left ∙ step_bytes s x
 
 accept_k : (g : Ledger) (x : Call) → (accept g x).k ≡ g.k
 unfolding accept
@@ -124,7 +124,7 @@ module _ (key k n : ℕ) (s : State) (o : Opens key k n s) (xs : List Call) (ws 
   abbrev said : List (Answer (List ℕ))
   said = all_said s xs
 
-  abbrev p : AfterPlan
+  abbrev p : After PlanLists (Unit {0})
   p = plan_call (after_all s xs) ls ts places
 
   abbrev words : List ℕ
@@ -167,18 +167,18 @@ module _ (key k n : ℕ) (s : State) (o : Opens key k n s) (xs : List Call) (ws 
       ∙ ap (map_answer (λ vs. tt)) (read_one_lem (map_answer nothing_said p.answer) (drop (length words) ws) (plan_readable (after_all s xs) ls ts places))
       ∙ answer_back p.answer
 
-  enough : Enough k (length s.table) p.locations p.terminals places → Enough k (length s.table) ls ts places
+  enough : Enough k (length s.table) p.left.locations p.left.terminals places → Enough k (length s.table) ls ts places
   enough e =
       let l = plan_lengths (after_all s xs) kept ls ts places in
       record { locations = omega (arith, l.0, e.locations); terminals = omega (arith, l.1, e.terminals); scratch = e.scratch }
 
-  run_ledger : ByLedger key k n xs (length s.table) places (written words ws) p.locations p.terminals
+  run_ledger : ByLedger key k n xs (length s.table) places (written words ws) p.left.locations p.left.terminals
   unfolding planned_in
   run_ledger =
       record {
         said = subst (λ (z : List (Answer (List ℕ))). Agree (first_ledger key k n) xs z) (sym reads) follows.0;
         planned = λ e.
-            ap (λ (w : Answer (Unit {0})). shown_plan k (after_plan w p.locations p.terminals)) reads_plan
+            ap (λ (w : Answer (Unit {0})). shown_plan k (after w (plan_lists p.left.locations p.left.terminals))) reads_plan
             ∙ is_planned (enough e)
             ∙ ap (λ (z : List (Answer (List ℕ))). ledger_plan (fed_all (first_ledger key k n) xs (refusals z))) (sym reads);
       }
@@ -187,32 +187,32 @@ module _ (key k n : ℕ) (s : State) (o : Opens key k n s) (xs : List Call) (ws 
 
 module _ (key k n : ℕ) (codes t ws ls ts : List ℕ) (places : ℕ) where
   -- demand 3 of what it leaves, where it is not refused
-  abbrev Good : AfterReplay → Type 0
-  Good a = a.answer ≡ result tt → ByLedger key k n (map call_of codes) (length t) places a.answers a.locations a.terminals
+  abbrev Good : After ReplayMemory (Unit {0}) → Type 0
+  Good a = a.answer ≡ result tt → ByLedger key k n (map call_of codes) (length t) places a.left.answers a.left.locations a.left.terminals
 
-  refused_good : (w : ℕ) (a : AfterReplay) → a.answer ≡ refusal w → Good a
+  refused_good : (w : ℕ) (a : After ReplayMemory (Unit {0})) → a.answer ≡ refusal w → Good a
   refused_good w a e q = not_said w tt (sym e ∙ q)
 
-  opened_good : (o : AfterOpen) (l : List ℕ) → open_call key k n l ≡ o → Good (opened_run o.answer o.list t (map call_of codes) ws ls ts places)
+  opened_good : (o : After (List ℕ) Round) (l : List ℕ) → open_call key k n l ≡ o → Good (opened_run o.answer o.left t (map call_of codes) ws ls ts places)
   unfolding run_of
-  opened_good o l e = by_answer o.answer (ap (λ (a : AfterOpen). a.answer) e)
+  opened_good o l e = by_answer o.answer (ap (λ (a : After (List ℕ) Round). a.answer) e)
     where
-      by_answer : (w : Answer Round) → (open_call key k n l).answer ≡ w → Good (opened_run w o.list t (map call_of codes) ws ls ts places)
-      by_answer (refusal w) q = refused_good w (opened_run (refusal w) o.list t (map call_of codes) ws ls ts places) refl
-      by_answer (result r) q = λ h. run_ledger key k n (state r o.list t) (record { lent = l; accepted = (λ i. after_open (q i) (e i).list) }) (map call_of codes) ws ls ts places
+      by_answer : (w : Answer Round) → (open_call key k n l).answer ≡ w → Good (opened_run w o.left t (map call_of codes) ws ls ts places)
+      by_answer (refusal w) q = refused_good w (opened_run (refusal w) o.left t (map call_of codes) ws ls ts places) refl
+      by_answer (result r) q = λ h. run_ledger key k n (state r o.left t) (record { lent = l; accepted = (λ i. after (q i) (e i).left) }) (map call_of codes) ws ls ts places
 
   replay_good : (l : List ℕ) → Good (replay_call key k n codes l t ws ls ts places)
   unfolding replay_call
   replay_good l =
       by_cond Good (every known codes) _ _
       (λ each. by_cond Good (ltb (length ws) (4 * length codes + 4)) _ _
-      (λ short. refused_good (short_refusal k n) (after_replay (refusal (short_refusal k n)) l t ws ls ts) refl)
+      (λ short. refused_good (short_refusal (2 ^ 30) 1 k n) (after (refusal (short_refusal (2 ^ 30) 1 k n)) (replay_memory l t ws ls ts)) refl)
       (λ long. opened_good (open_call key k n l) l refl))
-      (λ unknown. refused_good 12 (after_replay (refusal 12) l t ws ls ts) refl)
+      (λ unknown. refused_good 12 (after (refusal 12) (replay_memory l t ws ls ts)) refl)
 
 -- the second clause of replay's promise follows from the first
 pub replay_ledger : (key k n : ℕ) (codes l t ws ls ts : List ℕ) (places : ℕ) (o : Result (Unit {0}) Refusal) (l' t' ws' ls' ts' : List ℕ)
-    → after_replay (answer_of o) l' t' ws' ls' ts' ≡ replay_call key k n codes l t ws ls ts places
+    → after (answer_of o) (replay_memory l' t' ws' ls' ts') ≡ replay_call key k n codes l t ws ls ts places
     → Replayed o key k n codes (length t) places ws' ls' ts'
 replay_ledger key k n codes l t ws ls ts places (Err w) l' t' ws' ls' ts' e = tt
 replay_ledger key k n codes l t ws ls ts places (Ok u) l' t' ws' ls' ts' e =

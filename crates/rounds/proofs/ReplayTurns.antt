@@ -3,28 +3,28 @@
 use mathlib.Core.Path.{◌≡◌, refl, sym, ap, ◌∙◌}
 use mathlib.Core.Bool.{Bool, ◌&&◌, true, false, true≢false}
 use mathlib.Core.List.{List, [], ◌∷◌, ◌++◌, map, append_assoc, append-nil}
-use Prim.Native.Nat.{ℕ, ◌+◌, ◌*◌, ◌/◌, ◌≤◌, ◌<◌}
+use Prim.Native.Nat.{ℕ, ◌+◌, ◌*◌, ◌/◌, ◌≤◌, ◌<◌, ◌^◌}
 use native.Mathlib.Numerals.{add-one}
 use native.Mathlib.Omega.{arith}
 use borrow.Author.Tests.{lt-ltb, le-ltb}
 use lib.ListN.{length, take, drop, get_or, length-append, length-map, drop_of_length-le}
 use lib.Seq.{drop-cons, drop-append-add, drop-drop, take_at, get_or_at, length-take-le}
-use Rattle.answers.specs.Answers.{Answer, refusal, result, map_answer}
+use Rattle.answers.specs.Answers.{Answer, refusal, result, map_answer, after}
 use Rattle.std.proofs.Math.Seq.{take-length}
 use Rattle.std.specs.List.{list_all}
 use Rattle.lists.specs.Lists.{every, written}
 use Rattle.lists.proofs.Ranges.{every_place}
-use Rattle.orders.specs.ReservoirCalls.{short_refusal}
 use Rattle.std.specs.Prelude.{Result, Ok, Err, is_ok}
 use Rattle.answers.specs.declared.Refusal.{Refusal}
 use Rattle.answers.specs.Refusals.{number, answer_of}
+use Rattle.answers.specs.Making.{short_refusal}
 use Rattle.rounds.specs.declared.replays.Call as numbered
 use Rattle.rounds.specs.declared.round.Round.{Round}
-use Rattle.rounds.specs.Rounds.{State, state, after_open, open_call}
-use Rattle.rounds.specs.Plans.{after_plan, plan_call, ScratchAfter}
+use Rattle.rounds.specs.Rounds.{State, state, open_call}
+use Rattle.rounds.specs.Plans.{plan_call, ScratchAfter, plan_lists}
 use Rattle.rounds.specs.Ledgers.{Call}
 use Rattle.rounds.specs.Histories.{nothing_said, call, after_all, all_said}
-use Rattle.rounds.specs.Replays.{known, call_of, coded, coded_all, after_replay, run_of, replay_call, ScratchRun}
+use Rattle.rounds.specs.Replays.{known, call_of, coded, coded_all, run_of, replay_call, ScratchRun, replay_memory}
 use Rattle.rounds.specs.InnerReplays.{as_call, Reads, placed_at, Stepped, stepped, step_of}
 
 -- ---- the test of the numbers
@@ -74,7 +74,7 @@ coded_length (result vs) = refl
 
 unfoldable pub placed_all : ℕ → State → List Call → List ℕ → List ℕ
 placed_all p s [] ws = ws
-placed_all p s (x ∷ xs) ws = placed_all (p + 4) (call s x).state xs (placed_at p (coded (call s x).answer) ws)
+placed_all p s (x ∷ xs) ws = placed_all (p + 4) (call s x).left xs (placed_at p (coded (call s x).answer) ws)
 
 -- the calls from place i on
 abbrev pub calls_from : ℕ → List ℕ → List Call
@@ -120,9 +120,9 @@ placed_all_lem p xs ws s [] e = rw (append-nil xs)
 placed_all_lem p xs ws s (x ∷ calls) e =
     let a = call s x in
     let long : length (xs ++ coded a.answer) ≡ p + 4 = length-append xs (coded a.answer) ∙ omega (arith, coded_length a.answer) in
-    ap (λ (r : List ℕ). placed_all (p + 4) a.state calls r) (placed_behind p xs (coded a.answer) ws e)
-    ∙ placed_all_lem (p + 4) (xs ++ coded a.answer) ws a.state calls long
-    ∙ ap (λ (r : List ℕ). written r ws) (append_assoc xs (coded a.answer) (coded_all (all_said a.state calls)))
+    ap (λ (r : List ℕ). placed_all (p + 4) a.left calls r) (placed_behind p xs (coded a.answer) ws e)
+    ∙ placed_all_lem (p + 4) (xs ++ coded a.answer) ws a.left calls long
+    ∙ ap (λ (r : List ℕ). written r ws) (append_assoc xs (coded a.answer) (coded_all (all_said a.left calls)))
 
 pub placed_written : (s : State) (calls : List Call) (ws : List ℕ) → placed_all 0 s calls ws ≡ written (coded_all (all_said s calls)) ws
 unfolding written
@@ -134,7 +134,7 @@ unfolding all_said
 said_length s [] = refl
 said_length s (x ∷ calls) =
     let a = call s x in
-    length-append (coded a.answer) (coded_all (all_said a.state calls)) ∙ omega (arith, coded_length a.answer, said_length a.state calls)
+    length-append (coded a.answer) (coded_all (all_said a.left calls)) ∙ omega (arith, coded_length a.answer, said_length a.left calls)
 
 -- ---- the calls and the plan after them
 
@@ -142,10 +142,10 @@ said_length s (x ∷ calls) =
 pub run_is : (s : State) (codes : List ℕ) (r : Round) (l t ws us ls ts : List ℕ) (places : ℕ) (o : Result (Unit {0}) Refusal) (a ws' ls' ts' : List ℕ)
     → state r l t ≡ after_all s (map call_of codes)
     → us ≡ written (coded_all (all_said s (map call_of codes))) ws
-    → after_plan (answer_of o) ls' ts' ≡ plan_call (state r l t) ls ts places
+    → after (answer_of o) (plan_lists ls' ts') ≡ plan_call (state r l t) ls ts places
     → a ≡ coded (map_answer nothing_said (answer_of o))
     → ws' ≡ placed_at (4 * length codes) a us
-    → after_replay (result tt) l t ws' ls' ts' ≡ run_of s (map call_of codes) ws ls ts places
+    → after (result tt) (replay_memory l t ws' ls' ts') ≡ run_of s (map call_of codes) ws ls ts places
 unfolding run_of
 run_is s codes r l t ws us ls ts places o a ws' ls' ts' ends said planned words put =
     let calls = map call_of codes in
@@ -170,22 +170,22 @@ run_scratch c (Err w) a us ws before now h words put kept = (ap length kept, λ 
 -- ---- replay, by its tests
 
 module _ (key k n : ℕ) (codes l t ws ls ts : List ℕ) (places : ℕ) where
-  pub replay_unknown : every known codes ≡ false → after_replay (refusal 12) l t ws ls ts ≡ replay_call key k n codes l t ws ls ts places
+  pub replay_unknown : every known codes ≡ false → after (refusal 12) (replay_memory l t ws ls ts) ≡ replay_call key k n codes l t ws ls ts places
   unfolding replay_call
   replay_unknown m = rw m
 
-  pub replay_short : every known codes ≡ true → length ws / 4 ≤ length codes → (w : ℕ) → w ≡ short_refusal k n → after_replay (refusal w) l t ws ls ts ≡ replay_call key k n codes l t ws ls ts places
+  pub replay_short : every known codes ≡ true → length ws / 4 ≤ length codes → (w : ℕ) → w ≡ short_refusal (2 ^ 30) 1 k n → after (refusal w) (replay_memory l t ws ls ts) ≡ replay_call key k n codes l t ws ls ts places
   unfolding replay_call
   replay_short y m w e = rw (y, lt-ltb (length ws) (4 * length codes + 4) (omega arith), e)
 
   -- what open said, and the list that it left
-  module _ (y : every known codes ≡ true) (long : length codes < length ws / 4) (o : Result Round Refusal) (l' : List ℕ) (opens : after_open (answer_of o) l' ≡ open_call key k n l) where
-    pub replay_refused : (w : Refusal) → o ≡ Err w → after_replay (refusal (number w)) l' t ws ls ts ≡ replay_call key k n codes l t ws ls ts places
+  module _ (y : every known codes ≡ true) (long : length codes < length ws / 4) (o : Result Round Refusal) (l' : List ℕ) (opens : after (answer_of o) l' ≡ open_call key k n l) where
+    pub replay_refused : (w : Refusal) → o ≡ Err w → after (refusal (number w)) (replay_memory l' t ws ls ts) ≡ replay_call key k n codes l t ws ls ts places
     unfolding replay_call
     replay_refused w m = rw (y, le-ltb (length ws) (4 * length codes + 4) (omega arith), ← opens, m)
 
     pub replay_run : (r : Round) (l'' t' ws' ls' ts' : List ℕ) → o ≡ Ok r
-        → after_replay (result tt) l'' t' ws' ls' ts' ≡ run_of (state r l' t) (map call_of codes) ws ls ts places
-        → after_replay (result tt) l'' t' ws' ls' ts' ≡ replay_call key k n codes l t ws ls ts places
+        → after (result tt) (replay_memory l'' t' ws' ls' ts') ≡ run_of (state r l' t) (map call_of codes) ws ls ts places
+        → after (result tt) (replay_memory l'' t' ws' ls' ts') ≡ replay_call key k n codes l t ws ls ts places
     unfolding replay_call
     replay_run r l'' t' ws' ls' ts' m e = rw (y, le-ltb (length ws) (4 * length codes + 4) (omega arith), ← opens, m) e

@@ -10,7 +10,7 @@ use native.Mathlib.Numerals.{add-one}
 use borrow.Author.Tests.{lt-ltb, le-ltb, le-leb, lt-leb}
 use lib.ListN.{length}
 use Rattle.std.proofs.Math.Path.{subst₂}
-use Rattle.answers.specs.Answers.{Answer, refusal, result, map_answer, is_refusal}
+use Rattle.answers.specs.Answers.{Answer, refusal, result, map_answer, is_refusal, After, refused}
 use Rattle.lists.specs.Lists.{has}
 use Rattle.lists.proofs.Tests.{by_test, by_below, by_cond}
 use Rattle.orders.specs.declared.consistent_reservoir.ConsistentReservoir.{ConsistentReservoir}
@@ -18,8 +18,9 @@ use Rattle.orders.specs.Reservoirs.{opening}
 use Rattle.orders.specs.ReservoirCalls as Reservoir
 use Rattle.orders.proofs.AnewLaws.{Anew, AdmitAnew, finds_short, finds_none, brings_in, admit_anew, open_anew}
 use Rattle.orders.specs.Admissions.{Admits}
+use Rattle.orders.specs.ReservoirCalls.{ReservoirState}
 use Rattle.choosers.specs.SlotCalls as Slots
-use Rattle.rounds.specs.Rounds.{State, After, reservoir_of, fitting, refused, by_reservoir, admit_call, join_call, withdraw_call}
+use Rattle.rounds.specs.Rounds.{State, reservoir_of, fitting, by_reservoir, admit_call, join_call, withdraw_call}
 use Rattle.rounds.specs.Ledgers.{Call, admit, join, withdraw, Ledger, first_ledger, due_in, free_slot, exchanged, answer, fed}
 use Rattle.rounds.specs.Histories.{Opens, AllMade, made_none, made_next, valued, call}
 use Rattle.rounds.specs.Demand3.{Reached}
@@ -48,14 +49,14 @@ module _ (s : State) (A : List ℕ) (kept : Kept s) (b : Bool) (now : ListAnew s
   abbrev g : Ledger
   g = shown s A
 
-  abbrev a : Reservoir.After (Option (ℕ × ℕ))
+  abbrev a : After ReservoirState (Option (ℕ × ℕ))
   a = Reservoir.admit_call (reservoir_of s.round) s.list
 
   -- what it says, and what its list is after it
-  abbrev AdmitDone : After (List ℕ) → Type 0
-  AdmitDone z = (z.answer ≡ reply g (length s.list) (length s.table) admit) × ListAnew z.state (b || is_none admit z.answer)
+  abbrev AdmitDone : After State (List ℕ) → Type 0
+  AdmitDone z = (z.answer ≡ reply g (length s.list) (length s.table) admit) × ListAnew z.left (b || is_none admit z.answer)
 
-  abbrev Part : Reservoir.After (Option (ℕ × ℕ)) → Type 0
+  abbrev Part : After ReservoirState (Option (ℕ × ℕ)) → Type 0
   Part z = AdmitDone (valued exchanged (by_reservoir s z))
 
   -- the reply where v is due
@@ -84,10 +85,10 @@ module _ (s : State) (A : List ℕ) (kept : Kept s) (b : Bool) (now : ListAnew s
   unfolding answer
   admit_part (finds_short v d h e) =
       subst Part (sym e) (reply_short v d h, or_none b false refl now)
-  admit_part (finds_none d e m) = subst Part (sym e) (reply_none d, or_said b (subst (λ (z : Reservoir.After (Option (ℕ × ℕ))). Anew z.reservoir z.list true) e m))
+  admit_part (finds_none d e m) = subst Part (sym e) (reply_none d, or_said b (subst (λ (z : After ReservoirState (Option (ℕ × ℕ))). Anew z.left.reservoir z.left.list true) e m))
   admit_part (brings_in v d h f m n) =
       let c : is_none admit (map_answer exchanged a.answer) ≡ false = ap (is_none admit) (admit_says m) ∙ rw d refl in
-      (admit_says m ∙ reply_room v d h, or_none b (is_none admit (map_answer exchanged a.answer)) c (subst (Anew a.reservoir a.list) (sym f) n))
+      (admit_says m ∙ reply_room v d h, or_none b (is_none admit (map_answer exchanged a.answer)) c (subst (Anew a.left.reservoir a.left.list) (sym f) n))
 
   admit_done : AdmitDone (call s admit)
   unfolding call admit_call
@@ -101,7 +102,7 @@ join_said : (s : State) (g : Ledger) → Shows s g → (call s join).answer ≡ 
 unfolding reply
 join_said s g h =
     ⊎_elim
-    (λ (r : Refuses s g join (call s join)). ap (λ (a : After (List ℕ)). a.answer) r.is ∙ rw (le-leb (min (length s.table) Slots.slot_limit) (free_slot g) r.no_room) refl)
+    (λ (r : Refuses s g join (call s join)). ap (λ (a : After State (List ℕ)). a.answer) r.is ∙ rw (le-leb (min (length s.table) Slots.slot_limit) (free_slot g) r.no_room) refl)
     (λ (t : Takes s g join (call s join)). by_below (free_slot g) (min (length s.table) Slots.slot_limit)
     (λ l. t.answer_is ∙ rw (lt-leb (min (length s.table) Slots.slot_limit) (free_slot g) l) refl)
     (λ l. absurd (t.room l)))
@@ -111,20 +112,20 @@ withdraw_said : (s : State) (g : Ledger) → Shows s g → (x : ℕ) → (call s
 unfolding reply
 withdraw_said s g h x =
     ⊎_elim
-    (λ (r : Refuses s g (withdraw x) (call s (withdraw x))). ap (λ (a : After (List ℕ)). a.answer) r.is ∙ rw r.no_room refl)
+    (λ (r : Refuses s g (withdraw x) (call s (withdraw x))). ap (λ (a : After State (List ℕ)). a.answer) r.is ∙ rw r.no_room refl)
     (λ (t : Takes s g (withdraw x) (call s (withdraw x))). by_test (has x g.A)
     (λ y. t.answer_is ∙ rw y refl)
     (λ n. absurd (t.room n)))
     (outcome s g h (withdraw x))
 
 module _ (s : State) (b : Bool) (now : ListAnew s b) where
-  join_anew : ListAnew (call s join).state b
+  join_anew : ListAnew (call s join).left b
   unfolding call join_call
-  join_anew = by_cond (λ (z : After ℕ). ListAnew z.state b) (fitting s) _ _ (λ y. now) (λ n. now)
+  join_anew = by_cond (λ (z : After State ℕ). ListAnew z.left b) (fitting s) _ _ (λ y. now) (λ n. now)
 
-  withdraw_anew : (x : ℕ) → ListAnew (call s (withdraw x)).state b
+  withdraw_anew : (x : ℕ) → ListAnew (call s (withdraw x)).left b
   unfolding call withdraw_call
-  withdraw_anew x = by_cond (λ (z : After (Unit {0})). ListAnew z.state b) (fitting s) _ _ (λ y. now) (λ n. now)
+  withdraw_anew x = by_cond (λ (z : After State (Unit {0})). ListAnew z.left b) (fitting s) _ _ (λ y. now) (λ n. now)
 
 -- ---- every call of a round that shows a ledger
 
@@ -134,7 +135,7 @@ call_said s g h b now admit =
 call_said s g h b now join = join_said s g h
 call_said s g h b now (withdraw x) = withdraw_said s g h x
 
-pub call_anew : (s : State) → Kept s → (b : Bool) → ListAnew s b → (x : Call) → ListAnew (call s x).state (b || is_none x (call s x).answer)
+pub call_anew : (s : State) → Kept s → (b : Bool) → ListAnew s b → (x : Call) → ListAnew (call s x).left (b || is_none x (call s x).answer)
 call_anew s kept b now admit = (admit_done s (actives_of s) kept b now).1
 call_anew s kept b now join = or_none b false refl (join_anew s b now)
 call_anew s kept b now (withdraw x) = or_none b false refl (withdraw_anew s b now x)
@@ -147,7 +148,7 @@ refused_none join c = refl
 refused_none (withdraw x) c = refl
 
 counts_anew : {s t : State} {x : Call} {w : Answer (List ℕ)} → Kept s → (b : Bool) → ListAnew s b → Counts s x w t → ListAnew t (b || is_none x w)
-counts_anew {s = s} {x = x} kept b now (as_call e) = subst (λ (a : After (List ℕ)). ListAnew a.state (b || is_none x a.answer)) (sym e) (call_anew s kept b now x)
+counts_anew {s = s} {x = x} kept b now (as_call e) = subst (λ (a : After State (List ℕ)). ListAnew a.left (b || is_none x a.answer)) (sym e) (call_anew s kept b now x)
 counts_anew {s = s} {x = x} kept b now (as_none c answer_of left) =
     subst₂ (λ (v : Answer (List ℕ)) (u : State). ListAnew u (b || is_none x v)) (sym answer_of) (sym left) (or_none b (is_none x (refusal c)) (refused_none x c) now)
 

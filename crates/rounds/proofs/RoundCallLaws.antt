@@ -7,7 +7,7 @@ use Prim.Native.Nat.{ℕ}
 use lib.Dec.{eqb}
 use lib.ListN.{length}
 use Rattle.std.specs.Prelude.{Option, Result, Ok, Err}
-use Rattle.answers.specs.Answers.{refusal, result, map_answer}
+use Rattle.answers.specs.Answers.{refusal, result, map_answer, refused, after, After}
 use Rattle.answers.specs.declared.Refusal.{Refusal}
 use Rattle.answers.specs.Refusals.{number, answer_of}
 use Rattle.lists.proofs.Tests.{by_test}
@@ -15,28 +15,30 @@ use Rattle.lists.proofs.Keeping.{both}
 use Rattle.orders.specs.declared.consistent_reservoir.ConsistentReservoir.{ConsistentReservoir}
 use Rattle.orders.specs.declared.consistent_reservoir.Exchange.{Exchange}
 use Rattle.orders.specs.ReservoirCalls as Reservoir
+use Rattle.orders.specs.ReservoirCalls.{reservoir_state}
 use Rattle.orders.proofs.AdmissionLaws.{admit_unfit}
 use Rattle.choosers.specs.declared.node_map.ConsistentNodeMap.{ConsistentNodeMap}
 use Rattle.choosers.specs.Slots.{actives}
 use Rattle.choosers.specs.SlotCalls as Slots
+use Rattle.choosers.specs.SlotCalls.{slot_state}
 use Rattle.choosers.proofs.SlotCallLaws.{add_unfit, remove_unfit, query_unfit, query_fit}
 use Rattle.rounds.specs.declared.round.Round.{Round}
-use Rattle.rounds.specs.Rounds.{reservoir_of, map_of, state, fitting, after_open, open_call, refused, by_reservoir, by_slots, after, admit_call, join_call, withdraw_call}
+use Rattle.rounds.specs.Rounds.{reservoir_of, map_of, state, fitting, open_call, by_reservoir, by_slots, admit_call, join_call, withdraw_call}
 use Rattle.rounds.specs.InnerRounds.{begun, with_reservoir, with_map, idle_of}
 
 -- ---- open
 
 -- what the reservoir's open says and leaves, as the round's
-module _ (key k n : ℕ) (l after : List ℕ) (o : Result ConsistentReservoir Refusal) (is : Reservoir.after_open (answer_of o) after ≡ Reservoir.open_call k n key l) where
-  open_by : after_open (map_answer begun (answer_of o)) after ≡ open_call key k n l
+module _ (key k n : ℕ) (l l' : List ℕ) (o : Result ConsistentReservoir Refusal) (is : after (answer_of o) l' ≡ Reservoir.open_call k n key l) where
+  open_by : after (map_answer begun (answer_of o)) l' ≡ open_call key k n l
   unfolding open_call
-  open_by = ap (λ (x : Reservoir.AfterOpen). after_open (map_answer begun x.answer) x.list) is
+  open_by = ap (λ (x : After (List ℕ) ConsistentReservoir). after (map_answer begun x.answer) x.left) is
 
-  pub open_made : (a : ConsistentReservoir) (r : Round) → o ≡ Ok a → r ≡ begun a → after_open (result r) after ≡ open_call key k n l
-  open_made a r e f = ap (λ (x : Round). after_open (result x) after) f ∙ ap (λ (x : Result ConsistentReservoir Refusal). after_open (map_answer begun (answer_of x)) after) (sym e) ∙ open_by
+  pub open_made : (a : ConsistentReservoir) (r : Round) → o ≡ Ok a → r ≡ begun a → after (result r) l' ≡ open_call key k n l
+  open_made a r e f = ap (λ (x : Round). after (result x) l') f ∙ ap (λ (x : Result ConsistentReservoir Refusal). after (map_answer begun (answer_of x)) l') (sym e) ∙ open_by
 
-  pub open_refused : (w : Refusal) → o ≡ Err w → after_open (refusal (number w)) after ≡ open_call key k n l
-  open_refused w e = ap (λ (x : Result ConsistentReservoir Refusal). after_open (map_answer begun (answer_of x)) after) (sym e) ∙ open_by
+  pub open_refused : (w : Refusal) → o ≡ Err w → after (refusal (number w)) l' ≡ open_call key k n l
+  open_refused w e = ap (λ (x : Result ConsistentReservoir Refusal). after (map_answer begun (answer_of x)) l') (sym e) ∙ open_by
 
 -- ---- the test of refusal 12
 
@@ -91,7 +93,7 @@ module _ (r : Round) (l t : List ℕ) where
       (λ m. rw (table_fit ok, m, admit_unfit (reservoir_of r) l m))
 
   pub admit_code : Slots.fitting (map_of r) t ≡ true → (a b : ConsistentReservoir) (e : Result (Option Exchange) Refusal) (l' : List ℕ) (s : Round)
-      → a ≡ reservoir_of r → Reservoir.after (Reservoir.answer_of_exchange e) b l' ≡ Reservoir.admit_call a l → s ≡ with_reservoir r b
+      → a ≡ reservoir_of r → after (Reservoir.answer_of_exchange e) (reservoir_state b l') ≡ Reservoir.admit_call a l → s ≡ with_reservoir r b
       → after (Reservoir.answer_of_exchange e) (state s l' t) ≡ admit_call (state r l t)
   admit_code ok a b e l' s f g h =
       ap (λ (x : Round). after (Reservoir.answer_of_exchange e) (state x l' t)) h
@@ -113,7 +115,7 @@ module _ (r : Round) (l t : List ℕ) where
       (λ m. rw (list_fit ok, m, add_unfit (map_of r) t m))
 
   pub join_code : Reservoir.fitting (reservoir_of r) l ≡ true → (m b : ConsistentNodeMap) (y : Result ℕ Refusal) (t' : List ℕ) (s : Round)
-      → m ≡ map_of r → Slots.after (answer_of y) b t' ≡ Slots.add_call m t → s ≡ with_map r b
+      → m ≡ map_of r → after (answer_of y) (slot_state b t') ≡ Slots.add_call m t → s ≡ with_map r b
       → after (answer_of y) (state s l t') ≡ join_call (state r l t)
   join_code ok m b y t' s f g h =
       ap (λ (x : Round). after (answer_of y) (state x l t')) h
@@ -135,7 +137,7 @@ module _ (r : Round) (l t : List ℕ) where
         (λ m. rw (list_fit ok, m, remove_unfit (map_of r) t x m))
 
     pub withdraw_code : Reservoir.fitting (reservoir_of r) l ≡ true → (m b : ConsistentNodeMap) (o : Result (Unit {0}) Refusal) (t' : List ℕ) (s : Round)
-        → m ≡ map_of r → Slots.after (answer_of o) b t' ≡ Slots.remove_call m t x → s ≡ with_map r b
+        → m ≡ map_of r → after (answer_of o) (slot_state b t') ≡ Slots.remove_call m t x → s ≡ with_map r b
         → after (answer_of o) (state s l t') ≡ withdraw_call (state r l t) x
     withdraw_code ok m b o t' s f g h =
         ap (λ (y : Round). after (answer_of o) (state y l t')) h

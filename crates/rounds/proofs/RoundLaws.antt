@@ -6,14 +6,14 @@ use mathlib.Core.Bool.{true}
 use mathlib.Core.List.{List, []}
 use Prim.Native.Nat.{ℕ}
 use Rattle.std.proofs.Math.Path.{subst₂}
-use Rattle.answers.specs.Answers.{result, map_answer}
+use Rattle.answers.specs.Answers.{result, map_answer, after, After}
 use Rattle.orders.specs.Admissions as Admissions
 use Rattle.orders.proofs.ReservoirLaws as List
 use Rattle.choosers.specs.Slots.{actives}
 use Rattle.choosers.specs.SlotCalls as Slots
 use Rattle.choosers.proofs.SlotCallLaws.{new_fits}
 use Rattle.rounds.specs.declared.round.Round.{Round}
-use Rattle.rounds.specs.Rounds.{reservoir_of, map_of, round_of, State, fitting, AfterOpen, after_open, open_call}
+use Rattle.rounds.specs.Rounds.{reservoir_of, map_of, round_of, State, fitting, open_call}
 use Rattle.rounds.specs.Ledgers.{Ledger, ledger, first_ledger}
 use Rattle.rounds.specs.Histories.{Opens}
 use Rattle.answers.proofs.AnswerLaws.{not_said, said_same}
@@ -57,10 +57,10 @@ none_active t = refl
 pub open_list : (key k n : ℕ) (s : State) → Opens key k n s → Admissions.Opened key k n (reservoir_of s.round) s.list × (s.round.total ≡ 0)
 unfolding open_call
 open_list key k n s o =
-    List.open_kept (λ a. after_open (map_answer (λ r. round_of r (Slots.map_of 0)) a.answer) a.list ≡ after_open (result s.round) s.list → Admissions.Opened key k n (reservoir_of s.round) s.list × (s.round.total ≡ 0)) k n key o.lent
-    (λ w e. not_said w s.round (ap (λ (a : AfterOpen). a.answer) e))
-    (λ r l q e. let is-round : round_of r (Slots.map_of 0) ≡ s.round = said_same (round_of r (Slots.map_of 0)) s.round (ap (λ (a : AfterOpen). a.answer) e) in
-    let is-list : l ≡ s.list = ap (λ (a : AfterOpen). a.list) e in
+    List.open_kept (λ a. after (map_answer (λ r. round_of r (Slots.map_of 0)) a.answer) a.left ≡ after (result s.round) s.list → Admissions.Opened key k n (reservoir_of s.round) s.list × (s.round.total ≡ 0)) k n key o.lent
+    (λ w e. not_said w s.round (ap (λ (a : After (List ℕ) Round). a.answer) e))
+    (λ r l q e. let is-round : round_of r (Slots.map_of 0) ≡ s.round = said_same (round_of r (Slots.map_of 0)) s.round (ap (λ (a : After (List ℕ) Round). a.answer) e) in
+    let is-list : l ≡ s.list = ap (λ (a : After (List ℕ) Round). a.left) e in
     (subst₂ (Admissions.Opened key k n) (ap reservoir_of is-round) is-list q, sym (ap (λ (r : Round). r.total) is-round)))
     o.accepted
 

@@ -11,7 +11,7 @@ use native.Mathlib.Omega.{arith}
 use borrow.Author.Tests.{eq-eqb, ne_eqb}
 use lib.Dec.{eqb}
 use lib.ListN.{length}
-use Rattle.answers.specs.Answers.{Answer, result, map_answer, is_refusal}
+use Rattle.answers.specs.Answers.{Answer, result, map_answer, is_refusal, After, refused}
 use Rattle.lists.specs.Lists.{has, without}
 use Rattle.answers.proofs.AnswerLaws.{not_said}
 use Rattle.lists.proofs.Tests.{by_test, by_below, by_same, by_cond}
@@ -19,15 +19,17 @@ use Rattle.lists.proofs.Searching.{first_same}
 use Rattle.orders.specs.ReservoirCalls as Reservoir
 use Rattle.orders.proofs.MemoryLaws.{admit_length}
 use Rattle.orders.specs.Admissions.{Short, Admits}
+use Rattle.orders.specs.ReservoirCalls.{ReservoirState}
 use Rattle.orders.proofs.AdmissionLaws.{admit_kept}
 use Rattle.choosers.specs.declared.node_map.ConsistentNodeMap.{ConsistentNodeMap}
 use Rattle.choosers.specs.Slots.{active, vacant}
 use Rattle.choosers.specs.SlotCalls as Slots
+use Rattle.choosers.specs.SlotCalls.{SlotState}
 use Rattle.choosers.proofs.SlotCallLaws.{remove_none}
 use Rattle.choosers.proofs.SlotLaws.{has_actives}
 use Rattle.choosers.proofs.AddLaws.{vacant_le, vacant_outside, add_room, add_no_room, add_actives, add_count, add_fits, add_bytes}
 use Rattle.choosers.proofs.RemoveLaws.{remove_active, remove_actives, remove_count, remove_fits, remove_bytes}
-use Rattle.rounds.specs.Rounds.{reservoir_of, map_of, State, fitting, After, refused, by_reservoir, by_slots, admit_call, join_call, withdraw_call}
+use Rattle.rounds.specs.Rounds.{reservoir_of, map_of, State, fitting, by_reservoir, by_slots, admit_call, join_call, withdraw_call}
 use Rattle.rounds.specs.Ledgers.{Call, admit, join, withdraw, Ledger, ledger, free_slot, accept, exchanged, answer, fed}
 use Rattle.rounds.specs.Histories.{slot_said, nothing_said, valued, call}
 use Rattle.rounds.specs.Demand3.{agrees}
@@ -49,20 +51,20 @@ NoRoom s g admit = Short (reservoir_of s.round) s.list (Reservoir.admit_call (re
 NoRoom s g join = min (length s.table) Slots.slot_limit ≤ free_slot g
 NoRoom s g (withdraw x) = has x g.A ≡ false
 
-pub record Refuses (s : State) (g : Ledger) (x : Call) (a : After (List ℕ)) : Type 0 where
+pub record Refuses (s : State) (g : Ledger) (x : Call) (a : After State (List ℕ)) : Type 0 where
   pub no_room : NoRoom s g x
   pub is : a ≡ refused (possible x) s
 
-pub record Takes (s : State) (g : Ledger) (x : Call) (a : After (List ℕ)) : Type 0 where
+pub record Takes (s : State) (g : Ledger) (x : Call) (a : After State (List ℕ)) : Type 0 where
   pub room : NoRoom s g x → ⊥
   pub answer_is : a.answer ≡ result (answer g x)
-  pub shows : Shows a.state (accept g x)
+  pub shows : Shows a.left (accept g x)
 
-abbrev pub Outcome : State → Ledger → Call → After (List ℕ) → Type 0
+abbrev pub Outcome : State → Ledger → Call → After State (List ℕ) → Type 0
 Outcome s g x a = Refuses s g x a ⊎ Takes s g x a
 
 -- a fitting round's call is that of its part
-pub through : {A : Type 0} (Q : After (List ℕ) → Type 0) (f : A → List ℕ) (b : Bool) (x y : After A) → b ≡ true → Q (valued f x) → Q (valued f (cond b x y))
+pub through : {A : Type 0} (Q : After State (List ℕ) → Type 0) (f : A → List ℕ) (b : Bool) (x y : After State A) → b ≡ true → Q (valued f x) → Q (valued f (cond b x y))
 through Q f b x y e q = subst (λ (c : Bool). Q (valued f (cond c x y))) (sym e) q
 
 -- ---- the calls
@@ -78,7 +80,7 @@ module _ (s : State) (A : List ℕ) (set : Same (actives_of s) A) (kept : Kept s
   unfolding accept answer
   admit_takes m = record {
     room = λ (h : Short (reservoir_of s.round) s.list (Reservoir.admit_call (reservoir_of s.round) s.list)).
-        not_said 4 _ (sym (ap (λ (a : Reservoir.After (Option (ℕ × ℕ))). a.answer) h.is_refused) ∙ m.answer_is);
+        not_said 4 _ (sym (ap (λ (a : After ReservoirState (Option (ℕ × ℕ))). a.answer) h.is_refused) ∙ m.answer_is);
     answer_is = ap (map_answer exchanged) m.answer_is;
     shows = record {
       numbers = λ i. ledger (m.key_is i) (m.k_is i) (m.n_is i) A s.round.total;
@@ -93,7 +95,7 @@ module _ (s : State) (A : List ℕ) (set : Same (actives_of s) A) (kept : Kept s
       through (Outcome s g admit) exchanged (fitting s) (by_reservoir s (Reservoir.admit_call (reservoir_of s.round) s.list)) (refused 12 s) (fits_kept s kept)
       (⊎_elim
       (λ (h : Short (reservoir_of s.round) s.list (Reservoir.admit_call (reservoir_of s.round) s.list)).
-      inl (record { no_room = h; is = ap (λ (a : Reservoir.After (Option (ℕ × ℕ))). valued exchanged (by_reservoir s a)) h.is_refused }))
+      inl (record { no_room = h; is = ap (λ (a : After ReservoirState (Option (ℕ × ℕ))). valued exchanged (by_reservoir s a)) h.is_refused }))
       (λ (h : Admits (reservoir_of s.round) (Reservoir.admit_call (reservoir_of s.round) s.list)). inr (admit_takes h))
       (admit_kept (reservoir_of s.round) s.list kept.list))
 
@@ -142,7 +144,7 @@ module _ (s : State) (A : List ℕ) (set : Same (actives_of s) A) (kept : Kept s
       (λ h. inr (join_takes h))
       (λ h. inl (record {
         no_room = rw (← vacant_free) h;
-        is = ap (λ (a : Slots.After ℕ). valued slot_said (by_slots s a)) (add_no_room m s.table kept.table h);
+        is = ap (λ (a : After SlotState ℕ). valued slot_said (by_slots s a)) (add_no_room m s.table kept.table h);
       })))
 
   -- ---- withdraw
@@ -176,7 +178,7 @@ module _ (s : State) (A : List ℕ) (set : Same (actives_of s) A) (kept : Kept s
         (λ y. inr (withdraw_takes y))
         (λ n. inl (record {
           no_room = sym (set x) ∙ has_actives s.table s.round.total x ∙ n;
-          is = ap (λ (a : Slots.After (Unit {0})). valued nothing_said (by_slots s a)) (remove_none m s.table x kept.table n);
+          is = ap (λ (a : After SlotState (Unit {0})). valued nothing_said (by_slots s a)) (remove_none m s.table x kept.table n);
         })))
 
   outcome_shown : (x : Call) → Outcome s g x (call s x)
@@ -194,22 +196,22 @@ outcome s g h x = subst (λ (z : Ledger). Outcome s z x (call s x)) h.numbers (o
 abbrev pub Follows : Ledger → Call → Answer (List ℕ) → State → Type 0
 Follows g x w t = agrees g x w × Shows t (fed g x (is_refusal w))
 
-pub step : (s : State) (g : Ledger) → Shows s g → (x : Call) → Follows g x (call s x).answer (call s x).state
+pub step : (s : State) (g : Ledger) → Shows s g → (x : Call) → Follows g x (call s x).answer (call s x).left
 step s g h x =
     ⊎_elim
-    (λ (r : Refuses s g x (call s x)). subst (λ (a : After (List ℕ)). Follows g x a.answer a.state) (sym r.is) (tt, h))
-    (λ (t : Takes s g x (call s x)). subst (λ (w : Answer (List ℕ)). Follows g x w (call s x).state) (sym t.answer_is) (refl, t.shows))
+    (λ (r : Refuses s g x (call s x)). subst (λ (a : After State (List ℕ)). Follows g x a.answer a.left) (sym r.is) (tt, h))
+    (λ (t : Takes s g x (call s x)). subst (λ (w : Answer (List ℕ)). Follows g x w (call s x).left) (sym t.answer_is) (refl, t.shows))
     (outcome s g h x)
 
 -- the list and the table keep their lengths
-pub step_length : (s : State) (x : Call) → length (call s x).state.list ≡ length s.list
+pub step_length : (s : State) (x : Call) → length (call s x).left.list ≡ length s.list
 unfolding call admit_call join_call withdraw_call
-step_length s admit = by_cond (λ (a : After (Option (ℕ × ℕ))). length a.state.list ≡ length s.list) (fitting s) _ _ (λ e. admit_length (reservoir_of s.round) s.list) (λ e. refl)
-step_length s join = by_cond (λ (a : After ℕ). length a.state.list ≡ length s.list) (fitting s) _ _ (λ e. refl) (λ e. refl)
-step_length s (withdraw x) = by_cond (λ (a : After (Unit {0})). length a.state.list ≡ length s.list) (fitting s) _ _ (λ e. refl) (λ e. refl)
+step_length s admit = by_cond (λ (a : After State (Option (ℕ × ℕ))). length a.left.list ≡ length s.list) (fitting s) _ _ (λ e. admit_length (reservoir_of s.round) s.list) (λ e. refl)
+step_length s join = by_cond (λ (a : After State ℕ). length a.left.list ≡ length s.list) (fitting s) _ _ (λ e. refl) (λ e. refl)
+step_length s (withdraw x) = by_cond (λ (a : After State (Unit {0})). length a.left.list ≡ length s.list) (fitting s) _ _ (λ e. refl) (λ e. refl)
 
-pub step_bytes : (s : State) (x : Call) → length (call s x).state.table ≡ length s.table
+pub step_bytes : (s : State) (x : Call) → length (call s x).left.table ≡ length s.table
 unfolding call admit_call join_call withdraw_call
-step_bytes s admit = by_cond (λ (a : After (Option (ℕ × ℕ))). length a.state.table ≡ length s.table) (fitting s) _ _ (λ e. refl) (λ e. refl)
-step_bytes s join = by_cond (λ (a : After ℕ). length a.state.table ≡ length s.table) (fitting s) _ _ (λ e. add_bytes (map_of s.round) s.table) (λ e. refl)
-step_bytes s (withdraw x) = by_cond (λ (a : After (Unit {0})). length a.state.table ≡ length s.table) (fitting s) _ _ (λ e. remove_bytes (map_of s.round) s.table x) (λ e. refl)
+step_bytes s admit = by_cond (λ (a : After State (Option (ℕ × ℕ))). length a.left.table ≡ length s.table) (fitting s) _ _ (λ e. refl) (λ e. refl)
+step_bytes s join = by_cond (λ (a : After State ℕ). length a.left.table ≡ length s.table) (fitting s) _ _ (λ e. add_bytes (map_of s.round) s.table) (λ e. refl)
+step_bytes s (withdraw x) = by_cond (λ (a : After State (Unit {0})). length a.left.table ≡ length s.table) (fitting s) _ _ (λ e. remove_bytes (map_of s.round) s.table x) (λ e. refl)

@@ -2,7 +2,7 @@
 -- Assumes nothing.
 use Rattle.std.specs.Prelude.{◌≡◌, ◌⊎◌, ◌≢◌, true, false, cond, List, [], ◌∷◌, ℕ, ◌≤◌, min, eqb, length, Result}
 use Rattle.std.proofs.Math.Option.{Option, none, some}
-use Rattle.answers.specs.Answers.{Answer, refusal, result, is_refusal}
+use Rattle.answers.specs.Answers.{Answer, refusal, result, is_refusal, after}
 use Rattle.lists.specs.Lists.{has, Exchanges}
 use Rattle.answers.specs.declared.Refusal.{Refusal}
 use Rattle.answers.specs.Refusals.{answer_of}
@@ -10,7 +10,7 @@ use Rattle.choosers.specs.Slots.{active}
 use Rattle.choosers.specs.SlotCalls.{slot_limit}
 use Rattle.rounds.specs.Rounds.{State}
 use Rattle.rounds.specs.Ledgers.{Call, admit, join, withdraw, Ledger, first_ledger, answer, Sheet, ledger_plan, fed, fed_all}
-use Rattle.rounds.specs.Plans.{sampled, after_plan, plan_call, shown_plan}
+use Rattle.rounds.specs.Plans.{sampled, plan_call, shown_plan, plan_lists}
 use Rattle.rounds.specs.Histories.{Opens, Made, AllMade, refusals}
 
 -- ---- a round so reached, and its ledger
@@ -67,8 +67,8 @@ pub record PlanOf (s : State) (p : Answer (List Sheet)) : Type 0 where
   pub o : Result (Unit {0}) Refusal
   pub ls' : List ℕ
   pub ts' : List ℕ
-  pub promise : after_plan (answer_of o) ls' ts' ≡ plan_call s ls ts places
-  pub is : shown_plan s.round.k (after_plan (answer_of o) ls' ts') ≡ p
+  pub promise : after (answer_of o) (plan_lists ls' ts') ≡ plan_call s ls ts places
+  pub is : shown_plan s.round.k (after (answer_of o) (plan_lists ls' ts')) ≡ p
 
 -- no slot is active
 abbrev pub NoneActive : State → Type 0

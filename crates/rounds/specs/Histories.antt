@@ -1,13 +1,13 @@
 -- Lists of calls on a round, each on what the one before returned or left.
 -- Assumes nothing.
 use Rattle.std.specs.Prelude.{◌≡◌, Bool, List, [], ◌∷◌, map, ℕ, Option, Result}
-use Rattle.answers.specs.Answers.{Answer, result, map_answer, is_refusal}
+use Rattle.answers.specs.Answers.{Answer, result, map_answer, is_refusal, after, After}
 use Rattle.answers.specs.declared.Refusal.{Refusal}
 use Rattle.answers.specs.Refusals.{answer_of}
 use Rattle.orders.specs.declared.consistent_reservoir.Exchange.{Exchange}
 use Rattle.orders.specs.ReservoirCalls.{answer_of_exchange}
 use Rattle.rounds.specs.declared.round.Round.{Round}
-use Rattle.rounds.specs.Rounds.{State, state, open_call, after_open, After, after, admit_call, join_call, withdraw_call}
+use Rattle.rounds.specs.Rounds.{State, state, open_call, admit_call, join_call, withdraw_call}
 use Rattle.rounds.specs.Ledgers.{Call, admit, join, withdraw, exchanged}
 
 -- a call's values, as the ledger has them
@@ -22,7 +22,7 @@ nothing_said u = []
 -- an open of key, k and n that is accepted, and a table with any bytes
 pub record Opens (key k n : ℕ) (s : State) : Type 0 where
   pub lent : List ℕ
-  pub accepted : open_call key k n lent ≡ after_open (result s.round) s.list
+  pub accepted : open_call key k n lent ≡ after (result s.round) s.list
 
 -- On s a call was made: it said w, and t stands after it. Each case has the promise of one of the six calls as it stands in the code.
 pub data Made (s : State) : Call → Answer (List ℕ) → State → Type 0 where
@@ -55,10 +55,10 @@ refusals ws = map is_refusal ws
 -- ---- the same by the calls' models
 
 -- a call's values, whatever it answers
-abbrev pub valued : {A : Type 0} → (A → List ℕ) → After A → After (List ℕ)
-valued f a = after (map_answer f a.answer) a.state
+abbrev pub valued : {A : Type 0} → (A → List ℕ) → After State A → After State (List ℕ)
+valued f a = after (map_answer f a.answer) a.left
 
-unfoldable pub call : State → Call → After (List ℕ)
+unfoldable pub call : State → Call → After State (List ℕ)
 call s admit = valued exchanged (admit_call s)
 call s join = valued slot_said (join_call s)
 call s (withdraw x) = valued nothing_said (withdraw_call s x)
@@ -66,9 +66,9 @@ call s (withdraw x) = valued nothing_said (withdraw_call s x)
 -- what stands after a list of calls,
 unfoldable pub after_all : State → List Call → State
 after_all s [] = s
-after_all s (x ∷ xs) = after_all (call s x).state xs
+after_all s (x ∷ xs) = after_all (call s x).left xs
 
 -- and what they say.
 unfoldable pub all_said : State → List Call → List (Answer (List ℕ))
 all_said s [] = []
-all_said s (x ∷ xs) = (call s x).answer ∷ all_said (call s x).state xs
+all_said s (x ∷ xs) = (call s x).answer ∷ all_said (call s x).left xs

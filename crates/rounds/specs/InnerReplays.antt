@@ -35,4 +35,4 @@ stepped words s = record { words = words; state = s }
 unfoldable pub step_of : Call → State → Stepped
 step_of x s =
     let a = call s x in
-    stepped (coded a.answer) a.state
+    stepped (coded a.answer) a.left

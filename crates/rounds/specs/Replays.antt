@@ -2,14 +2,14 @@
 -- and answers are written as numbers; what replay says and leaves; and what its answers are by the ledger alone.
 -- Assumes nothing.
 use Rattle.std.specs.Prelude.{◌≡◌, ◌≢◌, Bool, cond, ◌||◌, List, [], ◌∷◌, ◌++◌, map, ℕ, zero, suc, ◌+◌, ◌*◌, ◌^◌, ◌/◌, ◌%◌, ltb, eqb, length, get_or, take, drop, Result, Ok, Err}
-use Rattle.answers.specs.Answers.{Answer, refusal, result, map_answer}
+use Rattle.answers.specs.Answers.{Answer, refusal, result, map_answer, After, after, refused}
 use Rattle.lists.specs.Lists.{every, written}
-use Rattle.orders.specs.ReservoirCalls.{short_refusal}
 use Rattle.answers.specs.declared.Refusal.{Refusal}
+use Rattle.answers.specs.Making.{short_refusal}
 use Rattle.rounds.specs.declared.round.Round.{Round}
 use Rattle.rounds.specs.Rounds.{State, state, open_call}
 use Rattle.rounds.specs.Ledgers.{Call, admit, join, withdraw, first_ledger, Sheet, ledger_plan, fed_all}
-use Rattle.rounds.specs.Plans.{after_plan, plan_call, shown_plan}
+use Rattle.rounds.specs.Plans.{plan_call, shown_plan, plan_lists}
 use Rattle.rounds.specs.Histories.{nothing_said, refusals, after_all, all_said}
 use Rattle.rounds.specs.Demand3.{Agree, Enough}
 
@@ -42,41 +42,41 @@ unfoldable pub read_all : ℕ → List ℕ → List (Answer (List ℕ))
 read_all zero l = []
 read_all (suc c) l = read_one l ∷ read_all c (drop 4 l)
 
--- ---- what replay says and leaves
+-- ---- what replay answers and leaves
 
-pub record AfterReplay : Type 0 where
-  pub answer : Answer (Unit {0})
+-- all that it may write but the scratch
+pub record ReplayMemory : Type 0 where
   pub list : List ℕ
   pub table : List ℕ
   pub answers : List ℕ
   pub locations : List ℕ
   pub terminals : List ℕ
 
-abbrev pub after_replay : Answer (Unit {0}) → List ℕ → List ℕ → List ℕ → List ℕ → List ℕ → AfterReplay
-after_replay w l t ws ls ts = record { answer = w; list = l; table = t; answers = ws; locations = ls; terminals = ts }
+abbrev pub replay_memory : List ℕ → List ℕ → List ℕ → List ℕ → List ℕ → ReplayMemory
+replay_memory l t ws ls ts = record { list = l; table = t; answers = ws; locations = ls; terminals = ts }
 
 -- The calls, and the plan after them, on a round s: each call's answer, a refusal too, and then the plan's, over the first places
 -- of the answers' list.
-unfoldable pub run_of : State → List Call → List ℕ → List ℕ → List ℕ → ℕ → AfterReplay
+unfoldable pub run_of : State → List Call → List ℕ → List ℕ → List ℕ → ℕ → After ReplayMemory (Unit {0})
 run_of s xs ws ls ts places =
     let end = after_all s xs in
     let p = plan_call end ls ts places in
-    after_replay (result tt) end.list end.table (written (coded_all (all_said s xs) ++ coded (map_answer nothing_said p.answer)) ws) p.locations p.terminals
+    after (result tt) (replay_memory end.list end.table (written (coded_all (all_said s xs) ++ coded (map_answer nothing_said p.answer)) ws) p.left.locations p.left.terminals)
 
 -- a refused open is replay's refusal and changes nothing
-abbrev pub opened_run : Answer Round → List ℕ → List ℕ → List Call → List ℕ → List ℕ → List ℕ → ℕ → AfterReplay
-opened_run (refusal w) l t xs ws ls ts places = after_replay (refusal w) l t ws ls ts
+abbrev pub opened_run : Answer Round → List ℕ → List ℕ → List Call → List ℕ → List ℕ → List ℕ → ℕ → After ReplayMemory (Unit {0})
+opened_run (refusal w) l t xs ws ls ts places = refused w (replay_memory l t ws ls ts)
 opened_run (result r) l t xs ws ls ts places = run_of (state r l t) xs ws ls ts places
 
 -- 12: a number that is no call. Then open's refusals, its 4 also for an answers' list with fewer than four places for each call and four
 -- for the plan. From then on it is not refused.
-unfoldable pub replay_call : ℕ → ℕ → ℕ → List ℕ → List ℕ → List ℕ → List ℕ → List ℕ → List ℕ → ℕ → AfterReplay
+unfoldable pub replay_call : ℕ → ℕ → ℕ → List ℕ → List ℕ → List ℕ → List ℕ → List ℕ → List ℕ → ℕ → After ReplayMemory (Unit {0})
 replay_call key k n codes l t ws ls ts places =
     let o = open_call key k n l in
     cond (every known codes)
-    (cond (ltb (length ws) (4 * length codes + 4)) (after_replay (refusal (short_refusal k n)) l t ws ls ts)
-    (opened_run o.answer o.list t (map call_of codes) ws ls ts places))
-    (after_replay (refusal 12) l t ws ls ts)
+    (cond (ltb (length ws) (4 * length codes + 4)) (refused (short_refusal (2 ^ 30) 1 k n) (replay_memory l t ws ls ts))
+    (opened_run o.answer o.left t (map call_of codes) ws ls ts places))
+    (refused 12 (replay_memory l t ws ls ts))
 
 -- ---- the scratch
 
@@ -93,7 +93,7 @@ ReplayScratch (Ok u) c ws before now = ScratchRun c ws before now
 
 -- the plan as replay leaves it: its answer stands in place 4 · the number of calls
 unfoldable pub planned_in : ℕ → ℕ → List ℕ → List ℕ → List ℕ → Answer (List Sheet)
-planned_in k c ws ls ts = shown_plan k (after_plan (map_answer (λ vs. tt) (read_one (drop (4 * c) ws))) ls ts)
+planned_in k c ws ls ts = shown_plan k (after (map_answer (λ vs. tt) (read_one (drop (4 * c) ws))) (plan_lists ls ts))
 
 -- Lent were a table of so many bytes, two lists and a scratch of so many places; after it stand the answers and the two lists:
 -- each answer that is no refusal is the ledger's, fed with which calls were refused; and so is the plan after them.

@@ -3,11 +3,13 @@
 -- Assumes nothing.
 use Rattle.std.specs.Prelude.{Bool, cond, ◌&&◌, List, ℕ}
 use Rattle.std.proofs.Math.Option.{Option}
-use Rattle.answers.specs.Answers.{Answer, refusal, map_answer}
+use Rattle.answers.specs.Answers.{map_answer, After, after, refused}
 use Rattle.orders.specs.declared.consistent_reservoir.ConsistentReservoir.{ConsistentReservoir}
 use Rattle.orders.specs.ReservoirCalls as Reservoir
+use Rattle.orders.specs.ReservoirCalls.{ReservoirState}
 use Rattle.choosers.specs.declared.node_map.ConsistentNodeMap.{ConsistentNodeMap}
 use Rattle.choosers.specs.SlotCalls as Slots
+use Rattle.choosers.specs.SlotCalls.{SlotState}
 use Rattle.rounds.specs.declared.round.Round.{Round}
 
 -- a round's reservoir and its slot map
@@ -36,49 +38,29 @@ fitting s = Reservoir.fitting (reservoir_of s.round) s.list && Slots.fitting (ma
 
 -- ---- open
 
--- what an open says, and the list after it. There is a record only where it says one.
-pub record AfterOpen : Type 0 where
-  pub answer : Answer Round
-  pub list : List ℕ
-
-abbrev pub after_open : Answer Round → List ℕ → AfterOpen
-after_open w l = record { answer = w; list = l }
-
--- the reservoir's open; "An accepted open sets the slot count to 0 and writes no table byte."
-unfoldable pub open_call : ℕ → ℕ → ℕ → List ℕ → AfterOpen
+-- the reservoir's open, which leaves the list; "An accepted open sets the slot count to 0 and writes no table byte."
+unfoldable pub open_call : ℕ → ℕ → ℕ → List ℕ → After (List ℕ) Round
 open_call key k n l =
     let o = Reservoir.open_call k n key l in
-    after_open (map_answer (λ a. round_of a (Slots.map_of 0)) o.answer) o.list
+    after (map_answer (λ a. round_of a (Slots.map_of 0)) o.answer) o.left
 
 -- ---- admit, join, withdraw
 
--- what a call says, and the record, the list and the table after it
-pub record After (A : Type 0) : Type 0 where
-  pub answer : Answer A
-  pub state : State
-
-abbrev pub after : {A : Type 0} → Answer A → State → After A
-after w s = record { answer = w; state = s }
-
--- a refusal changes nothing
-abbrev pub refused : {A : Type 0} → ℕ → State → After A
-refused w s = after (refusal w) s
-
 -- the reservoir's call: the slot map and the table stay
-abbrev pub by_reservoir : {A : Type 0} → State → Reservoir.After A → After A
-by_reservoir s a = after a.answer (state (round_of a.reservoir (map_of s.round)) a.list s.table)
+abbrev pub by_reservoir : {A : Type 0} → State → After ReservoirState A → After State A
+by_reservoir s a = after a.answer (state (round_of a.left.reservoir (map_of s.round)) a.left.list s.table)
 
 -- the slot map's call: the reservoir and the list stay
-abbrev pub by_slots : {A : Type 0} → State → Slots.After A → After A
-by_slots s a = after a.answer (state (round_of (reservoir_of s.round) a.map) s.list a.table)
+abbrev pub by_slots : {A : Type 0} → State → After SlotState A → After State A
+by_slots s a = after a.answer (state (round_of (reservoir_of s.round) a.left.map) s.list a.left.table)
 
-unfoldable pub admit_call : State → After (Option (ℕ × ℕ))
+unfoldable pub admit_call : State → After State (Option (ℕ × ℕ))
 admit_call s = cond (fitting s) (by_reservoir s (Reservoir.admit_call (reservoir_of s.round) s.list)) (refused 12 s)
 
 -- "join (add)"
-unfoldable pub join_call : State → After ℕ
+unfoldable pub join_call : State → After State ℕ
 join_call s = cond (fitting s) (by_slots s (Slots.add_call (map_of s.round) s.table)) (refused 12 s)
 
 -- "withdraw (remove)"
-unfoldable pub withdraw_call : State → ℕ → After (Unit {0})
+unfoldable pub withdraw_call : State → ℕ → After State (Unit {0})
 withdraw_call s x = cond (fitting s) (by_slots s (Slots.remove_call (map_of s.round) s.table x)) (refused 12 s)

@@ -1,8 +1,9 @@
 // The round's calls on a lent record: each makes the call by value, stores the record after it, and answers.
 ghost use Rattle.std.specs.Prelude.{◌≡◌};
+ghost use Rattle.answers.specs.Answers.{after};
 ghost use Rattle.answers.specs.Refusals.{answer_of};
 ghost use Rattle.orders.specs.ReservoirCalls.{answer_of_exchange};
-ghost use Rattle.rounds.specs.Rounds.{state, after, admit_call, join_call, withdraw_call};
+ghost use Rattle.rounds.specs.Rounds.{state, admit_call, join_call, withdraw_call};
 
 use crate::round;
 use crate::round::Round;

@@ -1,6 +1,6 @@
 // An open, a list of calls and a plan in one call: what demand 3 speaks of, as code that runs.
 ghost use Rattle.std.specs.Prelude.{◌≡◌, true, map, ◌+◌, ◌*◌, ◌≤◌, length};
-ghost use Rattle.answers.specs.Answers.{map_answer};
+ghost use Rattle.answers.specs.Answers.{map_answer, after};
 ghost use Rattle.answers.specs.Answers as Answers;
 ghost use Rattle.lists.specs.Lists.{every, written};
 ghost use Rattle.answers.specs.Refusals.{answer_of};
@@ -8,7 +8,7 @@ ghost use Rattle.orders.specs.ReservoirCalls.{answer_of_exchange};
 ghost use Rattle.rounds.specs.Rounds.{state};
 ghost use Rattle.rounds.specs.Ledgers.{exchanged};
 ghost use Rattle.rounds.specs.Histories.{slot_said, nothing_said, after_all, all_said};
-ghost use Rattle.rounds.specs.Replays.{known, call_of, coded, coded_all, after_replay, run_of, replay_call, ScratchRun, ReplayScratch, Replayed};
+ghost use Rattle.rounds.specs.Replays.{known, call_of, coded, coded_all, replay_memory, run_of, replay_call, ScratchRun, ReplayScratch, Replayed};
 ghost use Rattle.rounds.specs.InnerReplays.{Reads, placed_at, stepped, step_of, as_call};
 
 use crate::round;
@@ -125,7 +125,7 @@ fn run(
 )
     requires room { 4 * length calls.now + 4 ≤ length answers.old }
     requires known { every known calls.now ≡ true }
-    ensures answer { after_replay (Answers.result tt) list.new table.new answers.new locations.new terminals.new ≡ run_of (state r list.old table.old) (map call_of calls.now) answers.old locations.old terminals.old (length scratch.old) }
+    ensures answer { after (Answers.result tt) (replay_memory list.new table.new answers.new locations.new terminals.new) ≡ run_of (state r list.old table.old) (map call_of calls.now) answers.old locations.old terminals.old (length scratch.old) }
     ensures scratch_run { ScratchRun (length calls.now) answers.new scratch.old scratch.new }
 {
     let mut round = r;
@@ -155,7 +155,7 @@ pub fn replay(
     terminals: &mut [u32],
     scratch: &mut [u64],
 ) -> Result<(), Refusal>
-    ensures answer { after_replay (answer_of result) list.new table.new answers.new locations.new terminals.new ≡ replay_call key k n calls.now list.old table.old answers.old locations.old terminals.old (length scratch.old) }
+    ensures answer { after (answer_of result) (replay_memory list.new table.new answers.new locations.new terminals.new) ≡ replay_call key k n calls.now list.old table.old answers.old locations.old terminals.old (length scratch.old) }
     ensures replayed { Replayed result key k n calls.now (length table.old) (length scratch.old) answers.new locations.new terminals.new }
     ensures replay_scratch { ReplayScratch result (length calls.now) answers.new scratch.old scratch.new }
 {

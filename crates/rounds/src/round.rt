@@ -2,10 +2,11 @@
 // The lists are lent one by one, as C lends them.
 ghost use Rattle.std.specs.Prelude.{◌≡◌, map, ◌≤◌, length};
 ghost use Rattle.lists.specs.Lists.{written};
+ghost use Rattle.answers.specs.Answers.{after};
 ghost use Rattle.answers.specs.Refusals.{answer_of};
 ghost use Rattle.orders.specs.ReservoirCalls.{answer_of_exchange, sample};
-ghost use Rattle.rounds.specs.Rounds.{fitting, after_open, open_call, state, after, admit_call, join_call, withdraw_call, reservoir_of, map_of};
-ghost use Rattle.rounds.specs.Plans.{after_plan, plan_call, ScratchAfter};
+ghost use Rattle.rounds.specs.Rounds.{fitting, open_call, state, admit_call, join_call, withdraw_call, reservoir_of, map_of};
+ghost use Rattle.rounds.specs.Plans.{plan_lists, plan_call, ScratchAfter};
 ghost use Rattle.rounds.specs.InnerRounds.{begun, with_reservoir, with_map, idle_of, dealt_to};
 
 use answers::Refusal;
@@ -87,7 +88,7 @@ pub fn fits(r: Round, list: &[u32], table: &[u8]) -> bool
 
 // Open with k of n: refusals 1, 2, 3, 4.
 pub fn open(key: u64, k: u32, n: u32, list: &mut [u32]) -> Result<Round, Refusal>
-    ensures { after_open (answer_of result) list.new ≡ open_call key k n list.old }
+    ensures { after (answer_of result) list.new ≡ open_call key k n list.old }
 {
     let a = ConsistentReservoir::new(k, n, key, list)?;
     Ok(begin(a))
@@ -188,7 +189,7 @@ pub fn plan(
     terminals: &mut [u32],
     scratch: &mut [u64],
 ) -> Result<(), Refusal>
-    ensures answer { after_plan (answer_of result) locations.new terminals.new ≡ plan_call (state r list.now table.now) locations.old terminals.old (length scratch.old) }
+    ensures answer { after (answer_of result) (plan_lists locations.new terminals.new) ≡ plan_call (state r list.now table.now) locations.old terminals.old (length scratch.old) }
     ensures scratch_after { ScratchAfter result scratch.old scratch.new }
 {
     let idle = is_idle(r, list, table)?;

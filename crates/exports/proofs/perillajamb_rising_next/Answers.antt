@@ -7,4 +7,4 @@ use Rattle.exports.specs.Coded.{coded_hash}
 use Rattle.exports.proofs.perillajamb_rising_next.Goals as goal
 
 pub returns : goal.returns
-returns c = c.hash.ensures ∙ ap (λ (t : Step ConsistentHashIterator). coded_hash t.said) c.next.ensures
+returns c = c.hash.ensures ∙ ap (λ (t : Step ConsistentHashIterator). coded_hash t.answer) c.next.ensures

@@ -2,23 +2,20 @@
 -- Assumes nothing.
 use native.Mathlib.Omega.{arith}
 use borrow.Author.Tests.{lt-ltb, le-ltb}
-use Rattle.exports.specs.Crossings.{short_of}
+use Rattle.exports.specs.Crossings.{short_refusal}
 use Rattle.exports.proofs.parts.short_of.Goals as goal
 
 pub returns-then-limit-n : goal.returns-then-limit-n
-unfolding short_of
 returns-then-limit-n c =
     let a = c.args in
     rw (lt-ltb a.limit a.n (omega arith))
 
 pub returns-then-n-k : goal.returns-then-n-k
-unfolding short_of
 returns-then-n-k c =
     let a = c.args in
     rw (le-ltb a.limit a.n (omega arith), lt-ltb a.n a.k (omega arith))
 
 pub returns : goal.returns
-unfolding short_of
 returns c =
     let a = c.args in
     rw (le-ltb a.limit a.n (omega arith), le-ltb a.n a.k (omega arith))

@@ -11,19 +11,20 @@ use Rattle.std.proofs.lemmas.Result.{err_from_is_err_and}
 use Rattle.answers.specs.declared.Refusal.{Refusal}
 use Rattle.answers.specs.declared.Refusal.TheVariants.{Misfit}
 use Rattle.answers.specs.Refusals.{answer_of}
-use Rattle.rounds.specs.Replays.{known, AfterReplay, after_replay, replay_call, ReplayScratch, Replayed}
+use Rattle.answers.specs.Answers.{After, after}
+use Rattle.rounds.specs.Replays.{known, replay_call, ReplayScratch, Replayed, ReplayMemory, replay_memory}
 use Rattle.rounds.proofs.ReplayTurns.{replay_unknown, replay_short, replay_refused, replay_run}
 use Rattle.rounds.proofs.ReplayLaws.{replay_ledger}
 use Rattle.rounds.proofs.replays.replay.Goals as goal
 use Rattle.rounds.proofs.replays.replay.Goals.{Else-not-all_known, Start}
 
 -- what the function is to leave
-abbrev due : Start → AfterReplay
+abbrev due : Start → After ReplayMemory (Unit {0})
 due s = replay_call s.args.key s.args.k s.args.n s.args.calls.now s.args.list.now s.args.table.now s.args.answers.now s.args.locations.now s.args.terminals.now (length s.args.scratch.now)
 
 -- the three clauses: the second follows from the first
-clauses : (s : Start) (o : Result (Unit {0}) Refusal) (l t ws ls ts scratch : List ℕ) → after_replay (answer_of o) l t ws ls ts ≡ due s → ReplayScratch o (length s.args.calls.now) ws s.args.scratch.now scratch
-    → (after_replay (answer_of o) l t ws ls ts ≡ due s)
+clauses : (s : Start) (o : Result (Unit {0}) Refusal) (l t ws ls ts scratch : List ℕ) → after (answer_of o) (replay_memory l t ws ls ts) ≡ due s → ReplayScratch o (length s.args.calls.now) ws s.args.scratch.now scratch
+    → (after (answer_of o) (replay_memory l t ws ls ts) ≡ due s)
     × (Replayed o s.args.key s.args.k s.args.n s.args.calls.now (length s.args.table.now) (length s.args.scratch.now) ws ls ts
     × ReplayScratch o (length s.args.calls.now) ws s.args.scratch.now scratch)
 clauses s o l t ws ls ts scratch e spared = (e, (replay_ledger _ _ _ _ s.args.list.now s.args.table.now s.args.answers.now s.args.locations.now s.args.terminals.now _ o l t ws ls ts e, spared))

@@ -7,12 +7,12 @@ use Prim.Native.Nat.{ℕ, ◌-◌}
 use native.Mathlib.Omega.{arith}
 use borrow.Author.Rules.{rules}
 use lib.ListN.{length, set}
-use Rattle.answers.specs.Answers.{result}
+use Rattle.answers.specs.Answers.{result, after}
 use Rattle.answers.specs.Steps.{Step}
 use Rattle.layers.specs.Layer.{size}
 use Rattle.orders.specs.declared.consistent_permutation.ConsistentPermutation.{ConsistentPermutation}
 use Rattle.orders.specs.Orders.{counter}
-use Rattle.orders.specs.OrderCalls.{order_of, key_of, step, first_of}
+use Rattle.orders.specs.OrderCalls.{order_of, key_of, first_of}
 use Rattle.orders.specs.InnerCounters.{top_step}
 use Rattle.orders.proofs.CounterLaws.{within_at}
 use Rattle.orders.proofs.NextLaws.{first_walk, top_none, top_high, top_zero, zero_zero, zero_lower}
@@ -38,7 +38,7 @@ walk-w-requires c =
 pub returns-in_default : goal.returns-in_default
 returns-in_default c =
     let o = c.args.self.now in
-    ap (λ (ds : List ℕ). step (result none) (order_of (key_of o) o.n ds)) c.set_counter.ensures
+    ap (λ (ds : List ℕ). after (result none) (order_of (key_of o) o.n ds)) c.set_counter.ensures
     ∙ sym (top (goal.at.returns-in_default c).After-walk-w ∙ top_none o c.args.top.now.layer.number c.walk-w.result c.in_default.is)
 
 pub returns-then-quarter-y : goal.returns-then-quarter-y
@@ -47,13 +47,13 @@ returns-then-quarter-y c =
     let j = c.args.top.now.layer.number in
     let w = c.walk-w.result in
     let y = c.in-Some.y in
-    let is : top_step o j w ≡ step (result (some y)) (order_of (key_of o) o.n (set o.counters j w.input)) =
+    let is : top_step o j w ≡ after (result (some y)) (order_of (key_of o) o.n (set o.counters j w.input)) =
     elim c.then-quarter-y.branch [
       | then-quarter-y-via-then-quarter-y b ↦ top_high o j y w c.in-Some.is (omega (arith, c.quarter.ensures, b.if-quarter-y.true))
       | then-quarter-y-via-else-quarter-y+then-j-eq0 b ↦
           top_zero o j y w c.in-Some.is (omega (arith, c.quarter.ensures, b.if-quarter-y.false)) ∙ zero_zero o j _ _ b.if-j-eq0.true
     ] in
-    ap (λ (ds : List ℕ). step (result (some y)) (order_of (key_of o) o.n ds)) c.set_counter-then-quarter-y.ensures
+    ap (λ (ds : List ℕ). after (result (some y)) (order_of (key_of o) o.n ds)) c.set_counter-then-quarter-y.ensures
     ∙ sym (top (goal.at.returns-then-quarter-y c).After-walk-w ∙ is)
 
 pub returns : goal.returns

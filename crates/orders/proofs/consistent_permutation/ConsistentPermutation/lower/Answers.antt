@@ -5,8 +5,8 @@ use mathlib.Core.List.{List}
 use mathlib.Core.Option.{some}
 use Prim.Native.Nat.{ℕ, ◌-◌}
 use native.Mathlib.Omega.{arith}
-use Rattle.answers.specs.Answers.{result}
-use Rattle.orders.specs.OrderCalls.{order_of, key_of, step}
+use Rattle.answers.specs.Answers.{result, after}
+use Rattle.orders.specs.OrderCalls.{order_of, key_of}
 use Rattle.orders.proofs.CounterLaws.{within_limit}
 use Rattle.orders.proofs.NextLaws.{lower_met, lower_room, lower_low, lower_gave}
 use Rattle.orders.proofs.consistent_permutation.ConsistentPermutation.lower.Goals as goal
@@ -32,5 +32,5 @@ pub returns : goal.returns
 returns c =
     let a = c.args in
     let o = a.self.now in
-    ap (λ (ds : List ℕ). step (result (some c.in-Some.y)) (order_of (key_of o) o.n ds)) c.raise.ensures
+    ap (λ (ds : List ℕ). after (result (some c.in-Some.y)) (order_of (key_of o) o.n ds)) c.raise.ensures
     ∙ sym (lower_gave o a.top.number a.x _ _ c.requires.above c.in-Some.ensures c.of.ensures)
