@@ -9,12 +9,12 @@ use native.Mathlib.Omega.{arith}
 use lib.ListN.{length}
 use borrow.Author.Tests.{lt-ltb, le-ltb, eq-eqb, ne_eqb}
 use Rattle.answers.specs.Answers.{Answer, refusal, result}
-use Rattle.lists.specs.Lists.{keep, below, written}
+use Rattle.lists.specs.Lists.{keep, written}
 use Rattle.orders.specs.declared.consistent_reservoir.ConsistentReservoir.{ConsistentReservoir}
 use Rattle.orders.specs.declared.scans.Scan.{Scan}
 use Rattle.lists.proofs.Tests.{by_below, by_same}
 use Rattle.orders.specs.Orders.{layer_of}
-use Rattle.orders.specs.Reservoirs.{opening}
+use Rattle.orders.specs.Reservoirs.{counts, opening}
 use Rattle.orders.specs.ReservoirCalls.{listed, sample, fitting, after_open, reservoir_of, open_call, short_refusal, after_sample, sample_call}
 use Rattle.orders.specs.InnerPasses.{test_of, scan_of, placed}
 use Rattle.orders.proofs.PlacedLaws.{opening_length, opening_long, opening_fits, opening_placed}
@@ -100,6 +100,6 @@ unfolding sample_call
 sample_short r l o e h = rw (e, lt-ltb (length o) r.k h)
 
 pub sample_done : (r : ConsistentReservoir) (l o : List ℕ) → fitting r l ≡ true → r.k ≤ length o
-    → after_sample (result tt) (written (keep (below r.n) (listed r l)) o) ≡ sample_call r l o
+    → after_sample (result tt) (written (keep (counts r.n) (listed r l)) o) ≡ sample_call r l o
 unfolding sample_call sample
 sample_done r l o e h = rw (e, le-ltb (length o) r.k h)
