@@ -12,7 +12,7 @@ use Rattle.lists.proofs.Counting.{Order, order_all}
 use Rattle.words.specs.Words.{rotate_right}
 use Rattle.layers.specs.Layer.{round_function, next_key, round}
 use Rattle.orders.specs.Orders.{layer_of, log2, P}
-use Rattle.orders.specs.Reservoirs.{incoming}
+use Rattle.orders.specs.Reservoirs.{counts, incoming}
 use Rattle.orders.specs.ReservoirCalls.{sample, fitting, exchange_by, exchange, admit_call}
 use Rattle.orders.proofs.OrderLaws.{P_order}
 use Rattle.hashes.specs.Hashes.{later_numbers, numbers, bucket_hashes, prev}
@@ -45,7 +45,7 @@ P_zero [] o = refl
 P_zero (x ∷ xs) o = absurd (omega (arith, o.size))
 
 pub cases : Table
-unfolding layer_of log2 below admit_call fitting sample every last same exchange exchange_by incoming not_below standing written round round_function next_key rotate_right bucket_hashes numbers later_numbers shrink_call tested choosers.fitting ascends counts_from add_call remove_call slots.fitting active deleted vacant rounds.fitting rounds.admit_call join_call withdraw_call
+unfolding layer_of log2 counts below admit_call fitting sample every last same exchange exchange_by incoming not_below standing written round round_function next_key rotate_right bucket_hashes numbers later_numbers shrink_call tested choosers.fitting ascends counts_from add_call remove_call slots.fitting active deleted vacant rounds.fitting rounds.admit_call join_call withdraw_call
 cases = record {
   round_key_0 = refl;
   round_key_2 = refl;

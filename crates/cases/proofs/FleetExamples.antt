@@ -10,7 +10,7 @@ use Rattle.lists.specs.Lists.{below, same, has}
 use Rattle.words.specs.Words.{rotate_right}
 use Rattle.layers.specs.Layer.{start, round_function, next_key, round, rounds, over, layer, top_bits}
 use Rattle.orders.specs.Orders.{log2, layer_of, output, counted, zero_top, whole, P}
-use Rattle.orders.specs.Reservoirs.{opening, due, kth}
+use Rattle.orders.specs.Reservoirs.{counts, opening, due, kth}
 use Rattle.rounds.specs.Ledgers.{admit, Ledger, ledger, accept, answer}
 use Rattle.rounds.specs.Outcomes.{reply}
 
@@ -26,11 +26,11 @@ unfolding accept due P whole layer_of log2 below same has output counted zero_to
 two_admits = refl
 
 pub short_list : reply reached 64 512 admit ≡ refusal 4
-unfolding reply answer opening due kth P whole layer_of log2 below same has output counted zero_top top_bits layer start rounds round round_function next_key over rotate_right
+unfolding reply answer opening due kth P whole layer_of log2 counts below same has output counted zero_top top_bits layer start rounds round round_function next_key over rotate_right
 short_list = refl
 
 pub long_list : reply reached 8192 512 admit ≡ result (64 ∷ 14 ∷ [])
-unfolding reply answer opening due kth P whole layer_of log2 below same has output counted zero_top top_bits layer start rounds round round_function next_key over rotate_right
+unfolding reply answer opening due kth P whole layer_of log2 counts below same has output counted zero_top top_bits layer start rounds round round_function next_key over rotate_right
 long_list = refl
 
 -- so their samples, and with them their plans, differ: 14 has gone out on the second alone

@@ -13,7 +13,7 @@ use Rattle.layers.specs.Layer.{start, round_function, next_key, round, rounds, o
 use Rattle.hashes.specs.Hashes.{feed, draw, draws, later_numbers, numbers, bucket_hashes, bucket_draws, is_set, bucket, buckets, hashes, prev}
 use Rattle.hashes.specs.Calls.{prev_number}
 use Rattle.orders.specs.Orders.{log2, layer_of, output, counted, zero_top, whole, P}
-use Rattle.orders.specs.Reservoirs.{opening, incoming, up_to_zeros, grown, wider, due}
+use Rattle.orders.specs.Reservoirs.{counts, opening, incoming, up_to_zeros, grown, wider, due}
 use Rattle.orders.specs.ReservoirCalls as Reservoir
 use Rattle.choosers.specs.Choosers.{g, largest_g, S, Q}
 use Rattle.choosers.specs.Slots.{active, deleted, actives, vacant, holder, state_of, slot_among, slot_of}
@@ -41,7 +41,7 @@ abbrev begin : State
 begin = state (record_of 3 0 0) (0 ∷ 1 ∷ 77 ∷ 77 ∷ 77 ∷ 77 ∷ 77 ∷ 77 ∷ []) (9 ∷ 8 ∷ 7 ∷ [])
 
 opened : open_call key 2 3 (77 ∷ 77 ∷ 77 ∷ 77 ∷ 77 ∷ 77 ∷ 77 ∷ 77 ∷ []) ≡ after_open (result begin.round) begin.list
-unfolding open_call Reservoir.open_call opening written P whole layer_of log2 below output counted zero_top top_bits layer start rounds round round_function next_key over rotate_right
+unfolding open_call Reservoir.open_call opening written P whole layer_of log2 counts below output counted zero_top top_bits layer start rounds round round_function next_key over rotate_right
 opened = refl
 
 pub opens : Opens key 2 3 begin
@@ -57,7 +57,7 @@ said =
     ∷ result (13 ∷ 0 ∷ []) ∷ refusal 4 ∷ []
 
 pub all_said_lem : all_said begin calls ≡ said
-unfolding all_said call admit_call join_call withdraw_call fitting Reservoir.fitting Reservoir.sample Reservoir.admit_call Reservoir.exchange Reservoir.exchange_by Slots.fitting Slots.add_call Slots.remove_call every last incoming not_below standing written grown up_to_zeros wider below zero_top top_bits layer start rounds round round_function next_key over rotate_right vacant deleted active
+unfolding all_said call admit_call join_call withdraw_call fitting Reservoir.fitting Reservoir.sample Reservoir.admit_call Reservoir.exchange Reservoir.exchange_by Slots.fitting Slots.add_call Slots.remove_call every last incoming not_below standing written grown up_to_zeros wider counts below zero_top top_bits layer start rounds round round_function next_key over rotate_right vacant deleted active
 all_said_lem = refl
 
 -- The first four of them made in both ways: the first join and the admit on the lent record, the others by value. The admit goes to
@@ -66,7 +66,7 @@ abbrev wide : State
 wide = state (record { master_key = key; k = 2; n = 7; j_max = 1; used = 7; total = 2 }) (9 ∷ 13 ∷ 0 ∷ 7 ∷ 12 ∷ 8 ∷ 6 ∷ 77 ∷ []) (1 ∷ 1 ∷ 7 ∷ [])
 
 pub made_both : AllMade begin (join ∷ join ∷ admit ∷ withdraw 5 ∷ []) (result (0 ∷ []) ∷ result (1 ∷ []) ∷ result (6 ∷ 1 ∷ []) ∷ refusal 10 ∷ []) wide
-unfolding admit_call join_call withdraw_call fitting Reservoir.fitting Reservoir.sample Reservoir.admit_call Reservoir.exchange Reservoir.exchange_by Slots.fitting Slots.add_call Slots.remove_call every last incoming not_below standing written grown up_to_zeros wider below zero_top top_bits layer start rounds round round_function next_key over rotate_right vacant deleted active
+unfolding admit_call join_call withdraw_call fitting Reservoir.fitting Reservoir.sample Reservoir.admit_call Reservoir.exchange Reservoir.exchange_by Slots.fitting Slots.add_call Slots.remove_call every last incoming not_below standing written grown up_to_zeros wider counts below zero_top top_bits layer start rounds round round_function next_key over rotate_right vacant deleted active
 made_both =
     made_next (join_left (rust.Ok 0) (record_of 3 0 1) (1 ∷ 8 ∷ 7 ∷ []) refl)
     (made_next (join_returned (record_of 3 0 2, rust.Ok 1) (1 ∷ 1 ∷ 7 ∷ []) refl)
@@ -79,7 +79,7 @@ abbrev end : State
 end = state (record_of 14 1 2) (9 ∷ 13 ∷ 0 ∷ 7 ∷ 12 ∷ 8 ∷ 6 ∷ 77 ∷ []) (1 ∷ 1 ∷ 1 ∷ [])
 
 pub after_all_lem : after_all begin calls ≡ end
-unfolding after_all call admit_call join_call withdraw_call fitting Reservoir.fitting Reservoir.sample Reservoir.admit_call Reservoir.exchange Reservoir.exchange_by Slots.fitting Slots.add_call Slots.remove_call every last incoming not_below standing written grown up_to_zeros wider below zero_top top_bits layer start rounds round round_function next_key over rotate_right vacant deleted active
+unfolding after_all call admit_call join_call withdraw_call fitting Reservoir.fitting Reservoir.sample Reservoir.admit_call Reservoir.exchange Reservoir.exchange_by Slots.fitting Slots.add_call Slots.remove_call every last incoming not_below standing written grown up_to_zeros wider counts below zero_top top_bits layer start rounds round round_function next_key over rotate_right vacant deleted active
 after_all_lem = refl
 
 pub reached : Reached end
@@ -96,12 +96,12 @@ reached = record {
 
 -- its plan, over the first two places of lists of three: location 9 to terminal 0, 13 to terminal 1
 pub planned : plan_call end (5 ∷ 5 ∷ 5 ∷ []) (6 ∷ 6 ∷ 6 ∷ []) 3 ≡ after_plan (result tt) (9 ∷ 13 ∷ 5 ∷ []) (0 ∷ 1 ∷ 6 ∷ [])
-unfolding plan_call terminal_of fitting Reservoir.fitting Reservoir.sample Slots.fitting every last written below actives active holder state_of Q lacked has same S largest_g g prev_number prev hashes buckets bucket is_set bucket_hashes bucket_draws draws draw feed numbers later_numbers mix wrapping_mul
+unfolding plan_call terminal_of fitting Reservoir.fitting Reservoir.sample Slots.fitting every last written counts below actives active holder state_of Q lacked has same S largest_g g prev_number prev hashes buckets bucket is_set bucket_hashes bucket_draws draws draw feed numbers later_numbers mix wrapping_mul
 planned = refl
 
 -- the plan of the round as opened: 11
 pub none_active : plan_call begin (5 ∷ 5 ∷ []) (6 ∷ 6 ∷ []) 3 ≡ after_plan (refusal 11) (5 ∷ 5 ∷ []) (6 ∷ 6 ∷ [])
-unfolding plan_call fitting Reservoir.fitting Reservoir.sample Slots.fitting every last below actives active
+unfolding plan_call fitting Reservoir.fitting Reservoir.sample Slots.fitting every last counts below actives active
 none_active = refl
 
 -- ---- the ledger's side, from the key, the calls and which of them were refused

@@ -9,7 +9,7 @@ use Rattle.layers.specs.Layer.{start, round_function, next_key, round, rounds, o
 use Rattle.hashes.specs.Hashes.{feed, draw, draws, later_numbers, numbers, bucket_hashes, bucket_draws, is_set, bucket, buckets, hashes, prev}
 use Rattle.hashes.specs.Calls.{prev_number}
 use Rattle.orders.specs.Orders.{log2, layer_of, output, counted, zero_top, whole, P}
-use Rattle.orders.specs.Reservoirs.{opening}
+use Rattle.orders.specs.Reservoirs.{counts, opening}
 use Rattle.orders.specs.ReservoirCalls as Reservoir
 use Rattle.choosers.specs.Choosers.{g, largest_g, S, Q}
 use Rattle.choosers.specs.Slots.{active, deleted, actives, vacant, holder, state_of}
@@ -47,5 +47,5 @@ printed =
     ∷ 114 ∷ 101 ∷ 102 ∷ 117 ∷ 115 ∷ 101 ∷ 100 ∷ 9 ∷ 49 ∷ 49 ∷ 10 ∷ []
 
 pub document : answers memory (lines_of typed) ≡ printed
-unfolding respond answered open_line join_line withdraw_line plan_line command_of word_alone word_and_one word_and_three number_of key_of digit_of within text_of place_line tabbed decimal_of open_call join_call withdraw_call plan_call shown_plan terminal_of fitting Reservoir.open_call Reservoir.fitting Reservoir.sample Slots.fitting Slots.add_call Slots.remove_call opening written P whole layer_of log2 below output counted zero_top top_bits layer start rounds round round_function next_key over rotate_right every last actives active vacant deleted holder state_of Q lacked has same S largest_g g prev_number prev hashes buckets bucket is_set bucket_hashes bucket_draws draws draw feed numbers later_numbers mix wrapping_mul
+unfolding respond answered open_line join_line withdraw_line plan_line command_of word_alone word_and_one word_and_three number_of key_of digit_of within text_of place_line tabbed decimal_of open_call join_call withdraw_call plan_call shown_plan terminal_of fitting Reservoir.open_call Reservoir.fitting Reservoir.sample Slots.fitting Slots.add_call Slots.remove_call opening written P whole layer_of log2 counts below output counted zero_top top_bits layer start rounds round round_function next_key over rotate_right every last actives active vacant deleted holder state_of Q lacked has same S largest_g g prev_number prev hashes buckets bucket is_set bucket_hashes bucket_draws draws draw feed numbers later_numbers mix wrapping_mul
 document = refl

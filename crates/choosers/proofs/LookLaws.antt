@@ -7,8 +7,6 @@ use mathlib.Core.Option.{none, some}
 use Prim.Native.Nat.{ℕ, suc, ◌+◌, ◌-◌, ◌≤◌, ◌<◌, min}
 use native.Mathlib.Omega.{arith}
 use native.Mathlib.Numerals.{add-one}
-use borrow.Author.Tests.{lt-ltb}
-use lib.Dec.{eqb}
 use lib.ListN.{length, get_or, take, drop, length-take, get_or-append}
 use lib.Seq.{take_at, length-take-le, get_or-take}
 use Rattle.std.specs.List.{take-map}
@@ -18,12 +16,10 @@ use Rattle.lists.proofs.Finding.{find_next, find_hit, find_over}
 use Rattle.choosers.specs.Choosers.{S, Q, Moved, moved}
 use Rattle.choosers.specs.InnerChoosers.{grow_in}
 use Rattle.choosers.specs.InnerPlaces.{low, lows, Stands}
-use Rattle.choosers.specs.Slots.{active}
-use Rattle.choosers.specs.SlotCalls.{look_up}
 use Rattle.choosers.proofs.SampleLaws.{length_S}
 use Rattle.choosers.proofs.LoweringLaws.{place, place_le, grow_gives}
 use Rattle.choosers.proofs.PlaceLaws.{place_new}
-use Rattle.choosers.proofs.OrderLaws.{length_Q, Q_at, Q_below}
+use Rattle.choosers.proofs.OrderLaws.{length_Q, Q_at}
 
 -- ---- grow from S(k, n) in the first places
 
@@ -75,26 +71,20 @@ module _ (s n k : ℕ) (l : List ℕ) (h : k < length l) where
         λ i p. rw (get_or-append new (drop (k + 1) l) 0 i (omega (arith, m))) (kept i (omega (arith, m))),
       )
 
--- ---- the search for an active slot over the first m numbers of Q(c)
-
--- a slot below the count is active where its byte is 1
-active_is : (t : List ℕ) (c x : ℕ) (b : Bool) → x < c → eqb (get_or t x 0) 1 ≡ b → active t c x ≡ b
-unfolding active
-active_is t c x b h e = rw (lt-ltb x c h) e
+-- ---- the search for one that passes a test, over the first m numbers of Q(c)
 
 -- the answer is in what is left after k of them
-abbrev pub Ahead : ℕ → List ℕ → ℕ → ℕ → ℕ → Type 0
-Ahead s t c m k = find (active t c) (drop k (take m (Q s c))) ≡ look_up c t s m
+abbrev pub Ahead : (ℕ → Bool) → ℕ → ℕ → ℕ → ℕ → Type 0
+Ahead p s c m k = find p (drop k (take m (Q s c))) ≡ find p (take m (Q s c))
 
-module _ (s : ℕ) (t : List ℕ) (c m : ℕ) where
-  pub look_first : Ahead s t c m 0
-  unfolding look_up
+module _ (p : ℕ → Bool) (s c m : ℕ) where
+  pub look_first : Ahead p s c m 0
   look_first = refl
 
-  pub look_over : (k : ℕ) → min m c ≤ k → Ahead s t c m k → none ≡ look_up c t s m
-  look_over k h a = sym (find_over (active t c) (take m (Q s c)) k (omega (arith, length-take m (Q s c), length_Q s c))) ∙ a
+  pub look_over : (k : ℕ) → min m c ≤ k → Ahead p s c m k → none ≡ find p (take m (Q s c))
+  look_over k h a = sym (find_over p (take m (Q s c)) k (omega (arith, length-take m (Q s c), length_Q s c))) ∙ a
 
-  -- x is the next of them, and its byte says whether it is active
+  -- x is the next of them
   module _ (k : ℕ) (h : k < c) (e : k < m) (x : ℕ) (is : x ≡ get_or (Q s c) k 0) where
     within : k < length (take m (Q s c))
     within = omega (arith, length-take m (Q s c), length_Q s c)
@@ -102,11 +92,8 @@ module _ (s : ℕ) (t : List ℕ) (c m : ℕ) where
     next_is : get_or (take m (Q s c)) k 0 ≡ x
     next_is = get_or-take m (Q s c) k 0 e ∙ sym is
 
-    answer_of : (b : Bool) → eqb (get_or t x 0) 1 ≡ b → active t c (get_or (take m (Q s c)) k 0) ≡ b
-    answer_of b f = ap (active t c) next_is ∙ active_is t c x b (omega (arith, Q_below s c k h)) f
+    pub look_next : p x ≡ false → Ahead p s c m k → Ahead p s c m (k + 1)
+    look_next f a = sym (find_next p (take m (Q s c)) k within (ap p next_is ∙ f)) ∙ a
 
-    pub look_next : eqb (get_or t x 0) 1 ≡ false → Ahead s t c m k → Ahead s t c m (k + 1)
-    look_next f a = sym (find_next (active t c) (take m (Q s c)) k within (answer_of false f)) ∙ a
-
-    pub look_hit : eqb (get_or t x 0) 1 ≡ true → Ahead s t c m k → some x ≡ look_up c t s m
-    look_hit f a = ap some (sym next_is) ∙ sym (find_hit (active t c) (take m (Q s c)) k within (answer_of true f)) ∙ a
+    pub look_hit : p x ≡ true → Ahead p s c m k → some x ≡ find p (take m (Q s c))
+    look_hit f a = ap some (sym next_is) ∙ sym (find_hit p (take m (Q s c)) k within (ap p next_is ∙ f)) ∙ a

@@ -1,23 +1,38 @@
--- A location's slot, from the active slots alone: whatever count it is looked up in, and as slots come and go.
+-- The first number of a choice order that passes a test, whatever count it is looked up in; and so a location's slot, from the active
+-- slots alone, and as slots come and go.
 -- Assumes nothing.
 use mathlib.Core.Path.{◌≡◌, refl, sym, ap, ◌∙◌}
 use mathlib.Core.Logic.{◌⊎◌, inl, inr, ⊎_elim, ◌≢◌}
-use mathlib.Core.Bool.{true}
+use mathlib.Core.Bool.{Bool, true}
 use mathlib.Core.List.{List, [], ◌∷◌}
 use mathlib.Core.Option.{none, some}
 use Prim.Native.Nat.{ℕ, ◌≤◌, ◌<◌}
 use native.Mathlib.Omega.{arith}
-use Rattle.lists.specs.Lists.{below, has, zero_to, largest, find, without}
+use Rattle.lists.specs.Lists.{keep, below, has, zero_to, largest, find, without}
 use Rattle.lists.proofs.Tests.{below_yes, by_test}
-use Rattle.lists.proofs.Members.{has_yes, has_no, has→occurrences, occurrences_keep_no}
+use Rattle.lists.proofs.Keeping.{Stronger}
+use Rattle.lists.proofs.Members.{has_yes, has_no, has→occurrences}
 use Rattle.lists.proofs.Extremes.{by_max, extreme_of}
 use Rattle.lists.proofs.Having.{has_tail, has_more, has_again, has_out, has_others, has_fewer}
 use Rattle.lists.proofs.Finding.{find_passes, find_some, find_none, find_keep, find_same, find_removed, find_added}
 use Rattle.choosers.specs.Choosers.{Q}
 use Rattle.choosers.specs.Slots.{active, actives, holder, one_above, slot_among}
+use Rattle.lists.proofs.Ranges.{Within, within_lt, has_kept}
 use Rattle.choosers.proofs.OrderLaws.{Q_keep, Q_once}
-use Rattle.choosers.proofs.TableLaws.{active→}
-use Rattle.choosers.proofs.ActiveLaws.{actives_once}
+use Rattle.choosers.proofs.TableLaws.{active_over, active→}
+
+-- ---- any test
+
+module _ (s : ℕ) (p : ℕ → Bool) where
+  -- The first of Q(m) that passes is the first of Q(c) for any larger count c, as long as none from m up passes.
+  pub first_any : (m c : ℕ) → Stronger p (below m) → m ≤ c → find p (Q s c) ≡ find p (Q s m)
+  first_any m c b h = sym (find_keep p (below m) b (Q s c)) ∙ ap (find p) (Q_keep s m c h)
+
+  -- Where a number below the count passes, one is found.
+  pub first_some : (c x : ℕ) → x < c → p x ≡ true → find p (Q s c) ≢ none
+  first_some c x h y = find_some p (Q s c) x (omega (arith, Q_once s c x h)) y
+
+-- ---- a set of slots
 
 -- every one of the slots is below c
 abbrev pub Bounded : List ℕ → ℕ → Type 0
@@ -37,28 +52,29 @@ pub slot_any : (s c : ℕ) (A : List ℕ) → Bounded A c → find (λ x. has x 
 unfolding slot_among
 slot_any s c A b =
     let m : ℕ = one_above (largest A) in
-    sym (find_keep (λ x. has x A) (below m) (λ x h. below_yes x m (above_bounded A x h)) (Q s c))
-    ∙ ap (find (λ x. has x A)) (Q_keep s m c (above_least A c b))
+    first_any s (λ x. has x A) m c (λ x h. below_yes x m (above_bounded A x h)) (above_least A c b)
+
+-- The first of Q(c) that passes a test is the slot of those that pass.
+pub first_among : (s : ℕ) (p : ℕ → Bool) (c : ℕ) → Within p c → find p (Q s c) ≡ slot_among s (keep p (zero_to c))
+first_among s p c w =
+    let A : List ℕ = keep p (zero_to c) in
+    find_same p (λ x. has x A) (Q s c) (λ x h. sym (has_kept p c x w))
+    ∙ slot_any s c A (λ x h. within_lt p c x w (sym (has_kept p c x w) ∙ h))
 
 -- ---- get's answer
 
 -- The active slots as a list have just the active slots.
 pub has_actives : (t : List ℕ) (c x : ℕ) → has x (actives t c) ≡ active t c x
 unfolding actives
-has_actives t c x =
-    by_test (active t c x)
-    (λ y. has_yes x (actives t c) (omega (arith, actives_once t c x y)) ∙ sym y)
-    (λ n. has_no x (actives t c) (occurrences_keep_no (active t c) x (zero_to c) n) ∙ sym n)
+has_actives t c x = has_kept (active t c) c x (active_over t c)
 
 pub actives_bounded : (t : List ℕ) (c : ℕ) → Bounded (actives t c) c
 actives_bounded t c x h = (active→ t c x (sym (has_actives t c x) ∙ h)).0
 
 -- Get's answer is the slot by definition, whatever the bytes from the count on are.
 pub holder_slot : (s : ℕ) (t : List ℕ) (c : ℕ) → holder s t c ≡ slot_among s (actives t c)
-unfolding holder
-holder_slot s t c =
-    find_same (active t c) (λ x. has x (actives t c)) (Q s c) (λ x h. sym (has_actives t c x))
-    ∙ slot_any s c (actives t c) (actives_bounded t c)
+unfolding holder actives
+holder_slot s t c = first_among s (active t c) c (active_over t c)
 
 -- ---- which slot it is
 
@@ -80,8 +96,7 @@ module _ (s : ℕ) where
   pub slot_some : (A : List ℕ) (x : ℕ) → has x A ≡ true → slot_among s A ≢ none
   unfolding slot_among
   slot_some A x h =
-      let m : ℕ = one_above (largest A) in
-      find_some (λ x. has x A) (Q s m) x (omega (arith, Q_once s m x (above_bounded A x h))) h
+      first_some s (λ x. has x A) (one_above (largest A)) x (above_bounded A x h) h
 
   pub slot_none : slot_among s [] ≡ none
   unfolding slot_among

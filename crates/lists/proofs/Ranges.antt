@@ -1,7 +1,9 @@
--- The numbers from a up, by one more at the end; a test on every entry, by one more, and on every place of a prefix.
+-- The numbers from a up, by one more at the end, and those of them that pass a test; a test on every entry, by one more, and on every
+-- place of a prefix.
 -- Assumes nothing.
-use mathlib.Core.Path.{◌≡◌, refl, ap, ◌∙◌}
-use mathlib.Core.Bool.{Bool, true, false, ◌&&◌}
+use mathlib.Core.Path.{◌≡◌, refl, sym, ap, ◌∙◌}
+use mathlib.Core.Logic.{◌≢◌}
+use mathlib.Core.Bool.{Bool, true, false, true≢false, ◌&&◌}
 use mathlib.Core.List.{List, [], ◌∷◌, ◌++◌, append-nil}
 use Prim.Native.Nat.{ℕ, zero, suc, ◌+◌, ◌≤◌, ◌<◌}
 use native.Mathlib.Nat.{add-zero, zero-add}
@@ -9,10 +11,11 @@ use native.Mathlib.Numerals.{add-one}
 use native.Mathlib.Decide.{le_ind}
 use native.Mathlib.Omega.{arith}
 use lib.ListN.{length, take, get_or}
-use Rattle.lists.specs.Lists.{keep, occurrences, every, from, zero_to}
-use Rattle.lists.proofs.Tests.{same_yes, same_no, by_same}
-use Rattle.lists.proofs.Keeping.{both}
-use Rattle.lists.proofs.Members.{keep_append}
+use Rattle.lists.specs.Lists.{keep, occurrences, has, other, without, every, from, zero_to}
+use Rattle.lists.proofs.Tests.{same_yes, same_no, by_test, by_same, by_below}
+use Rattle.lists.proofs.Keeping.{both, keep_keep}
+use Rattle.lists.proofs.Members.{has_yes, has_no, occurrences_keep_yes, occurrences_keep_no, keep_append, keep_passes, keep_agree}
+use Rattle.lists.proofs.Without.{other_no, other_yes}
 
 from_snoc : (a c : ℕ) → from a (suc c) ≡ from a c ++ ((a + c) ∷ [])
 from_snoc a zero = rw (add-zero a)
@@ -44,6 +47,45 @@ keep_range p d c h f =
     le_ind {n = d} (λ j. keep p (zero_to j) ≡ keep p (zero_to d)) refl
     (λ j l e. ap (keep p) (zero_to_suc j) ∙ keep_append p (zero_to j) (j ∷ []) ∙ rw (f j l) (append-nil (keep p (zero_to j)) ∙ e))
     c h
+
+-- ---- the numbers below c that pass a test, as a list
+
+-- no number from c up passes
+abbrev pub Within : (ℕ → Bool) → ℕ → Type 0
+Within p c = (x : ℕ) → c ≤ x → p x ≡ false
+
+pub within_lt : (p : ℕ → Bool) (c x : ℕ) → Within p c → p x ≡ true → x < c
+within_lt p c x w y = by_below x c (λ h. h) (λ h. absurd (true≢false (sym y ∙ w x h)))
+
+pub kept_once : (p : ℕ → Bool) (c x : ℕ) → Within p c → p x ≡ true → occurrences x (keep p (zero_to c)) ≡ 1
+kept_once p c x w y = occurrences_keep_yes p x (zero_to c) y ∙ occurrences_from x 0 c (omega arith) (omega (arith, within_lt p c x w y))
+
+-- it has just those that pass
+pub has_kept : (p : ℕ → Bool) (c x : ℕ) → Within p c → has x (keep p (zero_to c)) ≡ p x
+has_kept p c x w =
+    by_test (p x)
+    (λ y. has_yes x (keep p (zero_to c)) (omega (arith, kept_once p c x w y)) ∙ sym y)
+    (λ n. has_no x (keep p (zero_to c)) (occurrences_keep_no p x (zero_to c) n) ∙ sym n)
+
+-- a test that x fails and that is the other one on every other number: the list without x
+module _ (p q : ℕ → Bool) (x d c : ℕ) (less : d ≤ c) (within : Within q d) (gone : q x ≡ false) (rest : (y : ℕ) → y ≢ x → q y ≡ p y) where
+  agrees : (y : ℕ) → 0 < occurrences y (keep p (zero_to c)) → other x y ≡ q y
+  agrees y h =
+      by_same y x
+      (λ e. other_no x y e ∙ sym (ap q e ∙ gone))
+      (λ n. other_yes x y n ∙ sym (rest y n ∙ keep_passes p y (zero_to c) h))
+
+  stays : (y : ℕ) → q y ≡ true → p y ≡ true
+  stays y h =
+      by_same y x
+      (λ e. absurd (true≢false (sym h ∙ ap q e ∙ gone)))
+      (λ n. sym (rest y n) ∙ h)
+
+  pub keep_out : keep q (zero_to d) ≡ without x (keep p (zero_to c))
+  keep_out =
+      sym (keep_agree (other x) q (keep p (zero_to c)) agrees
+      ∙ keep_keep q p stays (zero_to c)
+      ∙ keep_range q d c less within)
 
 -- ---- every entry
 

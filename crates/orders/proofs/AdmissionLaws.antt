@@ -22,7 +22,7 @@ use Rattle.lists.proofs.Exchanges.{Least}
 use Rattle.lists.proofs.Searching.{by_first}
 use Rattle.orders.specs.declared.consistent_reservoir.ConsistentReservoir.{ConsistentReservoir}
 use Rattle.orders.specs.Orders.{P}
-use Rattle.orders.specs.Reservoirs.{incoming, outputs, up_to_zeros, grown, wider, due, kth, in_and_out, n_after}
+use Rattle.orders.specs.Reservoirs.{incoming, outputs, up_to_zeros, grown, wider, due, kth, in_and_out, n_after, counts}
 use Rattle.orders.specs.ReservoirCalls.{key_of, j_of, listed, sample, fitting, reservoir_of, exchange_by, exchange, admit_at, admit_call, reservoir_state, ReservoirState}
 use Rattle.orders.specs.Admissions.{ChangesBy, Kept, ends_at, Short, Admits}
 use Rattle.orders.proofs.LogLaws.{pow_up}
@@ -36,17 +36,17 @@ use Rattle.orders.proofs.ReservoirLaws.{held_place, written_kept, sample_is, fit
 module _ (r : ConsistentReservoir) (l : List ℕ) (k0 : 0 < r.k) (k_le : r.k ≤ r.n) (i : ℕ) (n_le : r.n ≤ 4 ^ suc i) (i-le : i ≤ 14) (at : ends_at r ≡ some i) where
   -- an exchange by v, after which u places stand
   module _ (xs : List ℕ) (v : ℕ) (least : smallest (keep (not_below r.n) xs) ≡ some v) (c : Comes (key_of r) (suc i) r.k r.n xs v) where
-    by_v : exchange r i xs l ≡ exchange_by r i xs l v (standing (below (suc v)) r.k xs (length xs - 1))
+    by_v : exchange r i xs l ≡ exchange_by r i xs l v (standing (counts (suc v)) r.k xs (length xs - 1))
     unfolding exchange incoming
     by_v = rw (least, add-one v)
 
     v_due : due (key_of r) r.k r.n ≡ some v
     v_due = due_some (key_of r) r.k r.n v c.next (omega (arith, c.small, pow_up (suc i) 15 (omega arith)))
 
-    end_length : length (take (standing (below (suc v)) r.k xs (length xs - 1)) xs) ≡ standing (below (suc v)) r.k xs (length xs - 1)
-    end_length = length-take-le _ xs (omega (arith, standing_le (below (suc v)) r.k xs (length xs - 1)))
+    end_length : length (take (standing (counts (suc v)) r.k xs (length xs - 1)) xs) ≡ standing (counts (suc v)) r.k xs (length xs - 1)
+    end_length = length-take-le _ xs (omega (arith, standing_le (counts (suc v)) r.k xs (length xs - 1)))
 
-    too_short : length l < standing (below (suc v)) r.k xs (length xs - 1) → Short r l (exchange r i xs l)
+    too_short : length l < standing (counts (suc v)) r.k xs (length xs - 1) → Short r l (exchange r i xs l)
     unfolding exchange_by
     too_short h = record {
       v = v;
@@ -58,10 +58,10 @@ module _ (r : ConsistentReservoir) (l : List ℕ) (k0 : 0 < r.k) (k_le : r.k ≤
       is_refused = by_v ∙ rw (lt-ltb (length l) _ h);
     }
 
-    exchanged : standing (below (suc v)) r.k xs (length xs - 1) ≤ length l → Admits r (exchange r i xs l)
+    exchanged : standing (counts (suc v)) r.k xs (length xs - 1) ≤ length l → Admits r (exchange r i xs l)
     unfolding exchange_by last kth
     exchanged h =
-        let u : ℕ = standing (below (suc v)) r.k xs (length xs - 1) in
+        let u : ℕ = standing (counts (suc v)) r.k xs (length xs - 1) in
         let e : exchange r i xs l ≡ after (result (some (v, last xs))) (reservoir_state (reservoir_of (key_of r) r.k (v + 1) i u) (written (take u xs) l)) =
         by_v ∙ rw (le-ltb (length l) u h) in
         let s : v + 1 ≤ 4 ^ suc i = omega (arith, c.small) in
@@ -84,7 +84,7 @@ module _ (r : ConsistentReservoir) (l : List ℕ) (k0 : 0 < r.k) (k_le : r.k ≤
       let f : smallest (keep (not_below r.n) xs) ≡ some v = ap (λ (z : List ℕ). smallest (keep (not_below r.n) z)) e ∙ w.1 in
       let c : Comes (key_of r) (suc i) r.k r.n xs v =
       subst (λ (z : List ℕ). Comes (key_of r) (suc i) r.k r.n z v) (sym e) (comes (key_of r) (suc i) r.k r.n (omega arith) k0 k_le n_le v w.2) in
-      by_below (length l) (standing (below (suc v)) r.k xs (length xs - 1))
+      by_below (length l) (standing (counts (suc v)) r.k xs (length xs - 1))
       (λ h. inl (too_short xs v f c h))
       (λ h. inr (exchanged xs v f c h))
 
@@ -123,7 +123,7 @@ module _ (r : ConsistentReservoir) (l : List ℕ) (s : Kept r l) (full : r.used 
       let e : suc (j_of r) + (i - suc (j_of r)) ≡ i = omega arith in
       let g : held_at (key_of r) (suc (suc (j_of r) + (i - suc (j_of r)))) r.k r.n
       ≡ replace (below (4 ^ (suc (j_of r) + (i - suc (j_of r))))) (up_to (below (4 ^ (suc (j_of r) + (i - suc (j_of r))))) r.k (outputs (key_of r) (suc (j_of r) + (i - suc (j_of r))))) (held_at (key_of r) (suc (j_of r)) r.k r.n) =
-      grow_to_lem (key_of r) (suc (j_of r)) r.k r.n s.k_le s.n_le k_listed (i - suc (j_of r)) (omega arith) (λ u c d. just_k u c (z u c (omega arith))) in
+      grow_to_lem (key_of r) (suc (j_of r)) r.k r.n s.k_le s.n_le k_listed (i - suc (j_of r)) (λ u c d. just_k u c (z u c (omega arith))) in
       grown_at (key_of r) i r.k (listed r l)
       ∙ ap (replace (below (4 ^ i)) (up_to (below (4 ^ i)) r.k (outputs (key_of r) i))) (list_at r l s)
       ∙ sym (rw e at g)
@@ -134,7 +134,7 @@ module _ (r : ConsistentReservoir) (l : List ℕ) (s : Kept r l) (full : r.used 
       let e : suc (j_of r) + (14 - j_of r) ≡ 15 = omega (arith, s.j_le) in
       let h : (u : ℕ) → suc (j_of r) ≤ u → u < suc (j_of r) + (14 - j_of r) → inputs_at (key_of r) u r.k ≡ r.k = (λ u c d. just_k u c (z u c d)) in
       let g : held_at (key_of r) (suc (j_of r) + (14 - j_of r)) r.k r.n ≡ held_at (key_of r) (suc (j_of r)) r.k r.n =
-      grow_through (key_of r) (suc (j_of r)) r.k r.n s.k_le s.n_le k_listed (14 - j_of r) (omega arith) h in
+      grow_through (key_of r) (suc (j_of r)) r.k r.n s.k_le s.n_le k_listed (14 - j_of r) h in
       let d : due (key_of r) r.k r.n ≡ none =
       due_none (key_of r) r.k r.n (λ u a b. grow_none (key_of r) (suc (j_of r)) r.k r.n s.k_le s.n_le k_listed (14 - j_of r) (omega arith) h u a (rw e b)) in
       record {

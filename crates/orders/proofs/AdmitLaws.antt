@@ -11,16 +11,17 @@ use lib.ListN.{length, take, get_or, take-append-drop}
 use lib.Seq.{take-length, take-take, get_or-take, length-take-le}
 use borrow.Author.Tests.{lt-ltb, le-ltb, eq-eqb, ne_eqb}
 use Rattle.answers.specs.Answers.{result, after, refused}
-use Rattle.lists.specs.Lists.{below, standing, last, written}
+use Rattle.lists.specs.Lists.{standing, last, written}
 use Rattle.lists.proofs.Standing.{standing_le, standing_same}
 use Rattle.layers.specs.Layer.{size}
 use Rattle.orders.specs.declared.consistent_reservoir.ConsistentReservoir.{ConsistentReservoir}
 use Rattle.orders.specs.declared.scans.Scan.{Scan}
 use Rattle.orders.specs.declared.scans.Wide.{Wide}
-use Rattle.orders.specs.Reservoirs.{outputs, grown, wider, incoming}
+use Rattle.orders.specs.Reservoirs.{outputs, grown, wider, incoming, counts}
 use Rattle.orders.specs.ReservoirCalls.{key_of, j_of, listed, sample, fitting, reservoir_of, exchange_by, exchange, admit_call, grow_to, grow_layer_call, reservoir_state}
 use Rattle.orders.specs.InnerPasses.{low_of, rank_of, laid_of, scan_of, wide_of}
 use Rattle.orders.proofs.LogLaws.{size_in, pow_up}
+use Rattle.orders.proofs.CountsLaws.{keep_counts}
 use Rattle.orders.proofs.AdmissionLaws.{zeros_at}
 use Rattle.orders.proofs.CheckLaws.{Fits, fits_parts, used_some}
 use Rattle.orders.proofs.WideLaws.{Found, found, scan_inputs}
@@ -38,23 +39,23 @@ module _ (r : ConsistentReservoir) (l : List ℕ) (fit : fitting r l ≡ true) (
   v_comes : v ≡ incoming r.n (listed r l)
   unfolding sample
   v_comes =
-      is ∙ (low_incoming r.n (size (j_of r)) (listed r l) (omega (arith, facts.sampled, used_is)) (size_in (j_of r) facts.shape.j_low) facts.small).0
+      is ∙ (low_incoming r.n (size (j_of r)) (listed r l) (omega (arith, facts.sampled, used_is, ap length (keep_counts r.n (listed r l)))) (size_in (j_of r) facts.shape.j_low) facts.small).0
 
   pub here_v : v ≤ 4 ^ 15
   here_v = rw is (low_le r.n (listed r l))
 
-  pub here_end : standing (below (v + 1)) r.k (take (r.used - 1) l) (length (take (r.used - 1) l)) ≡ standing (below (v + 1)) r.k l (r.used - 1)
+  pub here_end : standing (counts (v + 1)) r.k (take (r.used - 1) l) (length (take (r.used - 1) l)) ≡ standing (counts (v + 1)) r.k l (r.used - 1)
   here_end =
       rw (length-take-le (r.used - 1) l (omega (arith, facts.shape.used_le)))
-      (standing_same (below (v + 1)) (below (v + 1)) r.k (take (r.used - 1) l) l (r.used - 1) (λ i h. ap (below (v + 1)) (get_or-take (r.used - 1) l i 0 h)))
+      (standing_same (counts (v + 1)) (counts (v + 1)) r.k (take (r.used - 1) l) l (r.used - 1) (λ i h. ap (counts (v + 1)) (get_or-take (r.used - 1) l i 0 h)))
 
-  pub here_done : (u : ℕ) → u ≡ standing (below (v + 1)) r.k l (r.used - 1)
+  pub here_done : (u : ℕ) → u ≡ standing (counts (v + 1)) r.k l (r.used - 1)
       → after (result (some (v, get_or l (r.used - 1) 0))) (reservoir_state (reservoir_of (key_of r) r.k (v + 1) (j_of r) u) l) ≡ exchange r (j_of r) (listed r l) l
   unfolding exchange exchange_by written last
   here_done u e =
-      let z : standing (below (v + 1)) r.k (listed r l) (r.used - 1) ≡ u =
-      standing_same (below (v + 1)) (below (v + 1)) r.k (listed r l) l (r.used - 1) (λ i h. ap (below (v + 1)) (get_or-take r.used l i 0 (omega arith))) ∙ sym e in
-      let le : u ≤ r.used - 1 = rw e (standing_le (below (v + 1)) r.k l (r.used - 1)) in
+      let z : standing (counts (v + 1)) r.k (listed r l) (r.used - 1) ≡ u =
+      standing_same (counts (v + 1)) (counts (v + 1)) r.k (listed r l) l (r.used - 1) (λ i h. ap (counts (v + 1)) (get_or-take r.used l i 0 (omega arith))) ∙ sym e in
+      let le : u ≤ r.used - 1 = rw e (standing_le (counts (v + 1)) r.k l (r.used - 1)) in
       let w : get_or (listed r l) (r.used - 1) 0 ≡ get_or l (r.used - 1) 0 = get_or-take r.used l (r.used - 1) 0 (omega arith) in
       let t : take u (listed r l) ≡ take u l = take-take u r.used l (omega arith) in
       let m : length (take u l) ≡ u = length-take-le u l (omega (arith, facts.shape.used_le)) in
@@ -99,9 +100,9 @@ module _ (r : ConsistentReservoir) (w : Wide) (l : List ℕ)
   pub above_k : (0 < r.k) × (r.k ≤ length l)
   above_k = (fact.shape.some_k, omega (arith, used_some r l fact, p.1, fact.shape.used_le))
 
-  module _ (e : ℕ) (is : e ≡ standing (below (w.low + 1)) r.k (outputs (key_of r) w.layer) (w.inputs - 1)) where
+  module _ (e : ℕ) (is : e ≡ standing (counts (w.low + 1)) r.k (outputs (key_of r) w.layer) (w.inputs - 1)) where
     pub end_le : e ≤ w.inputs - 1
-    end_le = rw is (standing_le (below (w.low + 1)) r.k (outputs (key_of r) w.layer) (w.inputs - 1))
+    end_le = rw is (standing_le (counts (w.low + 1)) r.k (outputs (key_of r) w.layer) (w.inputs - 1))
 
     pub end_rank : r.k - 1 ≡ rank_of (key_of r) w.layer e
     end_rank =
@@ -119,7 +120,7 @@ module _ (r : ConsistentReservoir) (w : Wide) (l : List ℕ)
         grow_low r w.layer l fact p.1 above_low goes.high more ∙ sym low_is in
         let m : length (grown (key_of r) w.layer r.k (listed r l)) ≡ w.inputs =
         grow_length r w.layer l fact p.1 above_low goes.high ∙ sym inputs_is in
-        let t : standing (below (w.low + 1)) r.k (grown (key_of r) w.layer r.k (listed r l)) (w.inputs - 1) ≡ e =
+        let t : standing (counts (w.low + 1)) r.k (grown (key_of r) w.layer r.k (listed r l)) (w.inputs - 1) ≡ e =
         rw (is, inputs_is) (grow_standing r w.layer l fact p.1 above_low goes.high w.low v_from) in
         rw (v, m, t)
 

@@ -22,6 +22,7 @@ use Rattle.lists.proofs.Keeping.{All, all_of_length, keep_length, both}
 use Rattle.layers.specs.Layer.{size}
 use Rattle.orders.specs.declared.consistent_reservoir.ConsistentReservoir.{ConsistentReservoir}
 use Rattle.orders.specs.declared.checks.Survey.{Survey}
+use Rattle.orders.specs.Reservoirs.{counts}
 use Rattle.orders.specs.ReservoirCalls.{j_of, listed, sample, fitting}
 use Rattle.orders.specs.InnerPasses.{or_all, low_of, survey_of, check_of}
 use Rattle.orders.proofs.LogLaws.{size_suc}
@@ -100,13 +101,13 @@ fits_parts r l e =
 pub used_some : (r : ConsistentReservoir) (l : List ℕ) → Fits r l → r.k ≤ r.used
 unfolding sample
 used_some r l s =
-    omega (arith, s.sampled, keep_length (below r.n) (listed r l), length-take-le r.used l s.shape.used_le)
+    omega (arith, s.sampled, keep_length (counts r.n) (listed r l), length-take-le r.used l s.shape.used_le)
 
--- with k listed numbers all are below n
-pub all_below_n : (r : ConsistentReservoir) (l : List ℕ) → Fits r l → r.used ≤ r.k → All (below r.n) (listed r l)
+-- with k listed numbers all belong to the sample
+pub all_count : (r : ConsistentReservoir) (l : List ℕ) → Fits r l → r.used ≤ r.k → All (counts r.n) (listed r l)
 unfolding sample
-all_below_n r l s h =
-    all_of_length (below r.n) (listed r l)
+all_count r l s h =
+    all_of_length (counts r.n) (listed r l)
     (omega (arith, s.sampled, used_some r l s, length-take-le r.used l s.shape.used_le))
 
 -- ---- the or of all numbers, against a power of two
@@ -132,14 +133,14 @@ or_size j xs = rw (four_pow_double (j + 1)) (or_all_test (2 * (j + 1)) 0 xs (pow
 -- the pass counts no more than it sees
 pub count_le : (n : ℕ) (xs : List ℕ) (s : Survey) → s ≡ survey_of n xs → s.count ≤ length xs
 unfolding survey_of
-count_le n xs s e = omega (arith, ap (λ (t : Survey). t.count) e, keep_length (below n) xs)
+count_le n xs s e = omega (arith, ap (λ (t : Survey). t.count) e, keep_length (counts n) xs)
 
 -- ---- the answers of the check
 
 close_is : (r : ConsistentReservoir) (l : List ℕ) (s : Survey) → s ≡ survey_of r.n (listed r l) → close_of r s (last (listed r l)) ≡ rest r l
 unfolding close_of rest survey_of sample
 close_is r l s e =
-    let a : 0 + length (keep (below r.n) (listed r l)) ≡ length (keep (below r.n) (listed r l)) = zero-add (length (keep (below r.n) (listed r l))) in
+    let a : 0 + length (keep (counts r.n) (listed r l)) ≡ length (keep (counts r.n) (listed r l)) = zero-add (length (keep (counts r.n) (listed r l))) in
     rw (e, a, or_size (j_of r) (listed r l))
 
 check_no : (r : ConsistentReservoir) (l : List ℕ) → fitting r l ≡ false → None ≡ check_of r l

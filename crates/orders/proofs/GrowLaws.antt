@@ -5,29 +5,31 @@ use mathlib.Core.Path.{◌≡◌, refl, ap, sym, ◌∙◌}
 use mathlib.Core.Bool.{true}
 use mathlib.Core.List.{List, [], ◌∷◌}
 use Prim.Native.Nat.{ℕ, zero, suc, ◌+◌, ◌-◌, ◌^◌, ◌<◌, ◌≤◌}
+use native.Mathlib.Nat.{le_refl}
 use native.Mathlib.Numerals.{add-one}
 use native.Mathlib.Omega.{arith}
 use lib.Dec.{ltb}
 use lib.ListN.{length, take, drop, get_or, length-take}
 use lib.Seq.{take-take, take-length, length-take-le, get_or-take}
 use Rattle.lists.specs.Lists.{keep, below, not_below, count_below, every, up_to, replace, standing, last, written}
-use Rattle.lists.proofs.Tests.{below_yes, below_no, below→lt, not_below→le, not_below_yes, not_below_no, by_test, by_below}
-use Rattle.lists.proofs.Keeping.{All, Stronger, below_below, keep_keep, all_stronger, all_drop, all_at, every_all}
+use Rattle.lists.proofs.Tests.{below_yes, below_no, below→lt, not_below_yes, not_below_no, by_test, by_below}
+use Rattle.lists.proofs.Keeping.{All, Stronger, keep_keep, all_stronger, all_drop, all_at, every_all}
 use Rattle.lists.proofs.Counting.{order_all}
 use Rattle.lists.proofs.Prefixes.{keep_snoc_yes, up_to_take, up_to_count, all_up_to, Ends, up_to_ends, ends_length, ends_front, ends_end}
 use Rattle.lists.proofs.Replacing.{replace_length, replace_at, replace_take, replace_front, replace_keep}
 use Rattle.lists.proofs.Standing.{standing_same}
 use Rattle.layers.specs.Layer.{size, layer}
 use Rattle.orders.specs.declared.consistent_reservoir.ConsistentReservoir.{ConsistentReservoir}
-use Rattle.orders.specs.Reservoirs.{outputs, grown, incoming}
+use Rattle.orders.specs.Reservoirs.{counts, outputs, grown, incoming}
 use Rattle.orders.specs.ReservoirCalls.{key_of, j_of, listed, sample}
 use Rattle.orders.specs.InnerPasses.{outs, low_of, rank_of, laid_of}
 use Rattle.orders.proofs.LogLaws.{size_suc, size_in, pow_up}
 use Rattle.orders.proofs.OrderLaws.{outputs_order, low_outputs}
+use Rattle.orders.proofs.CountsLaws.{counts_yes, not_counts→le, counts_below}
 use Rattle.orders.proofs.AdmissionLaws.{grown_at}
 use Rattle.orders.proofs.ScanLaws.{output_at}
 use Rattle.orders.proofs.CoverLaws.{take_outs, length_outs, rank_no}
-use Rattle.orders.proofs.CheckLaws.{Fits, used_some, all_below_n}
+use Rattle.orders.proofs.CheckLaws.{Fits, used_some, all_count}
 use Rattle.orders.proofs.LowLaws.{low_incoming}
 
 -- ---- the outputs of layer i up to and with the k-th below 4^i
@@ -93,16 +95,16 @@ reached_last key i zero p h = absurd (omega arith)
 reached_last key i (suc k) p h = reached_ends key i k h
 
 -- what is dropped from the end has not the top bits 00
-pub rank_standing : (key i v k : ℕ) → 4 ^ i ≤ v → (p : ℕ) → p ≤ size i → rank_of key i (standing (below (v + 1)) k (outputs key i) p) ≡ rank_of key i p
+pub rank_standing : (key i v k : ℕ) → 4 ^ i ≤ v → (p : ℕ) → p ≤ size i → rank_of key i (standing (counts (v + 1)) k (outputs key i) p) ≡ rank_of key i p
 unfolding standing
 rank_standing key i v k q zero h = refl
 rank_standing key i v k q (suc p) h =
     by_test (ltb k (suc p))
-    (λ a. by_test (below (v + 1) (get_or (outputs key i) p 0))
+    (λ a. by_test (counts (v + 1) (get_or (outputs key i) p 0))
     (λ b. rw (a, b))
     (λ b. rw (a, b)
     (rank_standing key i v k q p (omega arith)
-    ∙ sym (rank_no key i p (omega (arith, output_at key i p (omega arith), not_below→le {x = get_or (outputs key i) p 0} {n = v + 1} b))) ∙ ap (rank_of key i) (add-one p))))
+    ∙ sym (rank_no key i p (omega (arith, output_at key i p (omega arith), not_counts→le {x = get_or (outputs key i) p 0} {n = v + 1} b))) ∙ ap (rank_of key i) (add-one p))))
     (λ a. rw a)
 
 -- old entries below n do not wait, and the outputs that are kept all do
@@ -126,8 +128,11 @@ module _ (r : ConsistentReservoir) (i : ℕ) (l : List ℕ) (s : Fits r l) (full
   n_pos : 0 < r.n
   n_pos = omega (arith, s.shape.some_k, s.shape.k_le)
 
-  olds : All (below r.n) (listed r l)
-  olds = all_below_n r l s full
+  olds : All (counts r.n) (listed r l)
+  olds = all_count r l s full
+
+  low_olds : All (below r.n) (listed r l)
+  low_olds = all_stronger (counts r.n) (below r.n) (counts_below (le_refl r.n)) (listed r l) olds
 
   new_is : grown (key_of r) i r.k (listed r l) ≡ replace (below (4 ^ i)) (reached (key_of r) i r.k) (listed r l)
   new_is = grown_at (key_of r) i r.k (listed r l)
@@ -135,16 +140,16 @@ module _ (r : ConsistentReservoir) (i : ℕ) (l : List ℕ) (s : Fits r l) (full
   pub grow_length : length (grown (key_of r) i r.k (listed r l)) ≡ length (reached (key_of r) i r.k)
   grow_length = ap length new_is ∙ replace_length (below (4 ^ i)) (reached (key_of r) i r.k) (listed r l)
 
-  -- the numbers below n are the old ones
-  pub grow_sample : keep (below r.n) (grown (key_of r) i r.k (listed r l)) ≡ sample r l
+  -- the sample is the old one
+  pub grow_sample : keep (counts r.n) (grown (key_of r) i r.k (listed r l)) ≡ sample r l
   unfolding sample
   grow_sample =
-      let p : Stronger (below r.n) (below (4 ^ i)) = below_below n_quarter in
+      let p : Stronger (counts r.n) (below (4 ^ i)) = counts_below n_quarter in
       let e : length (listed r l) ≡ count_below (4 ^ i) (reached (key_of r) i r.k) =
       omega (arith, used_some r l s, length-take-le r.used l s.shape.used_le, reached_count (key_of r) i r.k k_quarter) in
-      sym (keep_keep (below r.n) (below (4 ^ i)) p (grown (key_of r) i r.k (listed r l)))
-      ∙ ap (λ (z : List ℕ). keep (below r.n) (keep (below (4 ^ i)) z)) new_is
-      ∙ ap (keep (below r.n)) (replace_keep (below (4 ^ i)) (reached (key_of r) i r.k) (listed r l) (all_stronger (below r.n) (below (4 ^ i)) p (listed r l) olds) e)
+      sym (keep_keep (counts r.n) (below (4 ^ i)) p (grown (key_of r) i r.k (listed r l)))
+      ∙ ap (λ (z : List ℕ). keep (counts r.n) (keep (below (4 ^ i)) z)) new_is
+      ∙ ap (keep (counts r.n)) (replace_keep (below (4 ^ i)) (reached (key_of r) i r.k) (listed r l) (all_stronger (counts r.n) (below (4 ^ i)) p (listed r l) olds) e)
 
   -- the smallest fresh output comes in
   pub grow_low : r.k < length (reached (key_of r) i r.k) → incoming r.n (grown (key_of r) i r.k (listed r l)) ≡ low_of (4 ^ i) (reached (key_of r) i r.k)
@@ -154,29 +159,29 @@ module _ (r : ConsistentReservoir) (i : ℕ) (l : List ℕ) (s : Fits r l) (full
       every_all (below (4 ^ suc i)) _ (all_up_to (below (4 ^ i)) (below (4 ^ suc i)) r.k (outputs (key_of r) i) (order_all (outputs_order (key_of r) i))) in
       let c : count_below (4 ^ i) (reached (key_of r) i r.k) < length (reached (key_of r) i r.k) = omega (arith, reached_count (key_of r) i r.k k_quarter) in
       let w : keep (not_below r.n) (grown (key_of r) i r.k (listed r l)) ≡ keep (not_below (4 ^ i)) (reached (key_of r) i r.k) =
-      ap (keep (not_below r.n)) new_is ∙ waiting_replace r.n (4 ^ i) n_pos n_quarter (reached (key_of r) i r.k) (listed r l) olds in
+      ap (keep (not_below r.n)) new_is ∙ waiting_replace r.n (4 ^ i) n_pos n_quarter (reached (key_of r) i r.k) (listed r l) low_olds in
       rw w (sym (low_incoming (4 ^ i) (4 ^ suc i) (reached (key_of r) i r.k) c (omega (arith, size_in i low, size_suc i)) small).0)
 
   -- an entry, seen by a test above n
   grow_test : (v p : ℕ) → 4 ^ i ≤ v → p < length (reached (key_of r) i r.k)
-      → below (v + 1) (get_or (grown (key_of r) i r.k (listed r l)) p 0) ≡ below (v + 1) (get_or (outputs (key_of r) i) p 0)
+      → counts (v + 1) (get_or (grown (key_of r) i r.k (listed r l)) p 0) ≡ counts (v + 1) (get_or (outputs (key_of r) i) p 0)
   grow_test v p q h =
       let a : get_or (reached (key_of r) i r.k) p 0 ≡ layer i (key_of r) p = reached_at (key_of r) i r.k k_quarter p h in
       let b : get_or (outputs (key_of r) i) p 0 ≡ layer i (key_of r) p = output_at (key_of r) i p (omega (arith, reached_fits (key_of r) i r.k k_quarter)) in
       let t : ℕ = count_below (4 ^ i) (take p (reached (key_of r) i r.k)) in
       rw (new_is, replace_at (below (4 ^ i)) (reached (key_of r) i r.k) (listed r l) p h, a, b)
       (by_below (layer i (key_of r) p) (4 ^ i)
-      (λ y. rw (below_yes _ _ y, below_yes (layer i (key_of r) p) (v + 1) (omega arith))
-      (let old : get_or (listed r l) t 0 < r.n = below→lt (all_at (below r.n) (below_yes 0 r.n n_pos) (listed r l) olds t) in
-      below_yes (get_or (listed r l) t 0) (v + 1) (omega (arith, n_quarter))))
+      (λ y. rw (below_yes _ _ y, counts_yes (layer i (key_of r) p) (v + 1) (omega arith))
+      (let old : get_or (listed r l) t 0 < r.n = below→lt (all_at (below r.n) (below_yes 0 r.n n_pos) (listed r l) low_olds t) in
+      counts_yes (get_or (listed r l) t 0) (v + 1) (omega (arith, n_quarter))))
       (λ y. rw (below_no _ _ y)))
 
   -- so where it ends is found on the outputs
   pub grow_standing : (v : ℕ) → 4 ^ i ≤ v
-      → standing (below (v + 1)) r.k (grown (key_of r) i r.k (listed r l)) (length (reached (key_of r) i r.k) - 1)
-      ≡ standing (below (v + 1)) r.k (outputs (key_of r) i) (length (reached (key_of r) i r.k) - 1)
+      → standing (counts (v + 1)) r.k (grown (key_of r) i r.k (listed r l)) (length (reached (key_of r) i r.k) - 1)
+      ≡ standing (counts (v + 1)) r.k (outputs (key_of r) i) (length (reached (key_of r) i r.k) - 1)
   grow_standing v q =
-      standing_same (below (v + 1)) (below (v + 1)) r.k _ _ (length (reached (key_of r) i r.k) - 1) (λ p h. grow_test v p q (omega arith))
+      standing_same (counts (v + 1)) (counts (v + 1)) r.k _ _ (length (reached (key_of r) i r.k) - 1) (λ p h. grow_test v p q (omega arith))
 
   -- the last old entry goes out
   pub grow_last : last (grown (key_of r) i r.k (listed r l)) ≡ get_or l (r.k - 1) 0

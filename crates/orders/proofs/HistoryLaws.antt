@@ -12,12 +12,12 @@ use borrow.Author.Tests.{lt-ltb, le-ltb, ne_eqb, eqb-false}
 use lib.Dec.{eqb}
 use lib.ListN.{length, take}
 use Rattle.answers.specs.Answers.{result, After, after, refused}
-use Rattle.lists.specs.Lists.{keep, below, written}
+use Rattle.lists.specs.Lists.{keep, written}
 use Rattle.lists.proofs.Tests.{by_test, by_below}
 use Rattle.answers.proofs.AnswerLaws.{not_said, said_same}
 use Rattle.orders.specs.declared.consistent_reservoir.ConsistentReservoir.{ConsistentReservoir}
 use Rattle.orders.specs.Orders.{P}
-use Rattle.orders.specs.Reservoirs.{grown, held}
+use Rattle.orders.specs.Reservoirs.{grown, held, counts}
 use Rattle.orders.specs.ReservoirCalls.{key_of, j_of, listed, sample, fitting, reservoir_of, open_call, admit_call, grow_to, grow_layer_call, reservoir_state, ReservoirState}
 use Rattle.orders.specs.Histories.{Call, admit, grow_layer, step_by, after_all}
 use Rattle.orders.proofs.MemoryLaws.{written_rest, admit_spares}
@@ -49,7 +49,7 @@ module _ (r : ConsistentReservoir) (l : List ℕ) where
         k_is = refl;
         n_is = refl;
         j_is = refl;
-        sample_is = ap (keep (below r.n)) (written_take next l) ∙ grow_sample r (j_of r + 1) l s full (omega arith) (omega arith);
+        sample_is = ap (keep (counts r.n)) (written_take next l) ∙ grow_sample r (j_of r + 1) l s full (omega arith) (omega arith);
         kept = λ k. written_kept (key_of r) r.k r.n (j_of r + 1) (length next) next l k.some_k k.k_le nj j1 refl
             (grown_held r l k full (j_of r + 1) (omega arith) j1 (λ u a b. absurd (omega arith)));
         past_used = written_rest next l (length next) refl;

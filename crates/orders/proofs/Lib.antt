@@ -1,6 +1,7 @@
 pub mod LogLaws
 pub mod WalkLaws
 pub mod OrderLaws
+pub mod CountsLaws
 pub mod HeldLaws
 pub mod DueLaws
 pub mod FitLaws

@@ -12,11 +12,11 @@ use lib.Dec.{ltb}
 use Rattle.answers.specs.Answers.{refusal, result, after, refused, Answer}
 use Rattle.answers.specs.Making.{by_sizes}
 use Rattle.answers.proofs.MakingLaws.{Sizes, sizes_no, sizes_pass}
-use Rattle.lists.specs.Lists.{keep, below, written}
+use Rattle.lists.specs.Lists.{keep, written}
 use Rattle.orders.specs.declared.consistent_reservoir.ConsistentReservoir.{ConsistentReservoir}
 use Rattle.orders.specs.declared.scans.Scan.{Scan}
 use Rattle.orders.specs.Orders.{layer_of}
-use Rattle.orders.specs.Reservoirs.{opening}
+use Rattle.orders.specs.Reservoirs.{opening, counts}
 use Rattle.orders.specs.ReservoirCalls.{listed, sample, fitting, reservoir_of, open_call, sample_call}
 use Rattle.orders.specs.InnerPasses.{scan_of, placed}
 use Rattle.orders.proofs.PlacedLaws.{opening_length, opening_long, opening_fits, opening_placed}
@@ -70,6 +70,6 @@ unfolding sample_call
 sample_short r l o e h = rw (e, lt-ltb (length o) r.k h)
 
 pub sample_done : (r : ConsistentReservoir) (l o : List ℕ) → fitting r l ≡ true → r.k ≤ length o
-    → after (result tt) (written (keep (below r.n) (listed r l)) o) ≡ sample_call r l o
+    → after (result tt) (written (keep (counts r.n) (listed r l)) o) ≡ sample_call r l o
 unfolding sample_call sample
 sample_done r l o e h = rw (e, le-ltb (length o) r.k h)

@@ -10,7 +10,7 @@ use native.Mathlib.Omega.{arith}
 use lib.ListN.{length, length-replicate, get_or-replicate}
 use Rattle.lists.specs.Lists.{keep, below, same, occurrences, count_below, replace}
 use Rattle.lists.proofs.Tests.{below_yes, by_test, by_below}
-use Rattle.lists.proofs.Keeping.{all_keep, keep_keep, below_below}
+use Rattle.lists.proofs.Keeping.{Stronger, all_keep, keep_keep, below_below}
 use Rattle.lists.proofs.Counting.{Order, order_of_lem, order_all, order_once, order_none, order_part}
 use Rattle.lists.proofs.Permutations.{image_order}
 use Rattle.lists.proofs.Replacing.{replace_zero, order_keep, order_replace}
@@ -48,19 +48,20 @@ module _ (key : ℕ) where
   unfolding place
   place_step m = order_keep (outputs_order m) (place_order m) (omega arith)
 
-  place_later : (n m e : ℕ) → n ≤ 4 ^ m → keep (below n) (place key (m + e)) ≡ keep (below n) (place key m)
-  place_later n m zero h = rw (add-zero m) refl
-  place_later n m (suc e) h =
+  -- and so are those of every later one that pass a test which no number from 4^m up passes
+  pub place_later : (p : ℕ → Bool) (m : ℕ) → Stronger p (below (4 ^ m)) → (e : ℕ) → keep p (place key (m + e)) ≡ keep p (place key m)
+  place_later p m s zero = rw (add-zero m) refl
+  place_later p m s (suc e) =
       rw (add-suc m e)
-      (sym (keep_keep (below n) (below (4 ^ (m + e))) (below_below (omega (arith, pow_up m (m + e) (omega arith)))) (place key (suc (m + e))))
-      ∙ ap (keep (below n)) (place_step (m + e))
-      ∙ place_later n m e h)
+      (sym (keep_keep p (below (4 ^ (m + e))) (λ x y. below_below (pow_up m (m + e) (omega arith)) x (s x y)) (place key (suc (m + e))))
+      ∙ ap (keep p) (place_step (m + e))
+      ∙ place_later p m s e)
 
   same_place : (n m m' : ℕ) → n ≤ 4 ^ m → n ≤ 4 ^ m' → keep (below n) (place key m) ≡ keep (below n) (place key m')
   same_place n m m' h h' =
       by_below m m'
-      (λ l. let e : m + (m' - m) ≡ m' = omega arith in sym (rw e at (place_later n m (m' - m) h)))
-      (λ l. let e : m' + (m - m') ≡ m = omega arith in rw e at (place_later n m' (m - m') h'))
+      (λ l. let e : m + (m' - m) ≡ m' = omega arith in sym (rw e at (place_later (below n) m (below_below h) (m' - m))))
+      (λ l. let e : m' + (m - m') ≡ m = omega arith in rw e at (place_later (below n) m' (below_below h') (m - m')))
 
   -- ---- the walk gives them
 

@@ -2,6 +2,7 @@
 -- from the layer below.
 -- Assumes nothing.
 use mathlib.Core.Path.{◌≡◌, refl, ap, sym, ◌∙◌}
+use mathlib.Core.Bool.{Bool}
 use mathlib.Core.List.{List, [], ◌∷◌, ◌++◌, append-nil}
 use Prim.Native.Nat.{ℕ, zero, suc, ◌+◌, ◌-◌, ◌^◌, ◌<◌, ◌≤◌}
 use native.Mathlib.Nat.{zero-add}
@@ -16,11 +17,12 @@ use Rattle.lists.proofs.Prefixes.{keep_take_le, up_to_take}
 use Rattle.lists.proofs.Replacing.{replace_take, replace_same, up_to_replace_length}
 use Rattle.layers.specs.Layer.{size}
 use Rattle.orders.specs.Orders.{layer_of}
-use Rattle.orders.specs.Reservoirs.{outputs, opening}
+use Rattle.orders.specs.Reservoirs.{counts, outputs, opening}
 use Rattle.orders.specs.InnerPasses.{outs, place, scan_of, rank_of, laid_of, placed}
 use Rattle.orders.proofs.LogLaws.{size_suc, layer_fits, layer_in, layer_quarter}
 use Rattle.orders.proofs.OrderLaws.{place_order, low_outputs}
-use Rattle.orders.proofs.HeldLaws.{held_at, held_long}
+use Rattle.orders.proofs.CountsLaws.{counts_is}
+use Rattle.orders.proofs.HeldLaws.{part, held_at, held_long}
 use Rattle.orders.proofs.ReservoirLaws.{opening_held}
 use Rattle.orders.proofs.CoverLaws.{take_outs, rank_le}
 
@@ -79,6 +81,7 @@ held_length key k n h =
     zero-add (length (up_to (below n) k (outputs key (layer_of n))))
     ∙ sym (up_to_replace_length (below n) (below (4 ^ layer_of n)) (below_yes 0 n h) (below_below q) k (outputs key (layer_of n)) (place key (layer_of n))
     (all_stronger (below (4 ^ layer_of n)) (below n) (below_below q) (place key (layer_of n)) (order_all (place_order key (layer_of n)))))
+    ∙ ap (λ (p : ℕ → Bool). length (part p key (suc (layer_of n)) k)) (sym (counts_is n))
 
 pub opening_length : (key k n : ℕ) → 0 < n → n ≤ 2 ^ 30 → (scan_of key (layer_of n) n k).inputs ≡ length (opening key k n)
 opening_length key k n h b = held_length key k n h ∙ ap length (sym (opening_held key k n b))
@@ -92,8 +95,8 @@ opening_fits key k n b =
     omega (
       arith,
       ap length (opening_held key k n b),
-      ap length (up_to_take (below n) k xs),
-      length-take (length (up_to (below n) k xs)) xs,
+      ap length (up_to_take (counts n) k xs),
+      length-take (length (up_to (counts n) k xs)) xs,
       (place_order key (suc (layer_of n))).size,
     )
 
@@ -101,7 +104,7 @@ pub opening_placed : (key k n : ℕ) (l : List ℕ) → n ≤ 2 ^ 30 → placed 
 unfolding placed written
 opening_placed key k n l b =
     rw (opening_held key k n b)
-    (ap (λ (z : List ℕ). z ++ drop (length (held_at key (suc (layer_of n)) k n)) l) (sym (up_to_take (below n) k (place key (suc (layer_of n))))))
+    (ap (λ (z : List ℕ). z ++ drop (length (held_at key (suc (layer_of n)) k n)) l) (sym (up_to_take (counts n) k (place key (suc (layer_of n))))))
 
 -- ---- in the code's terms
 

@@ -12,27 +12,28 @@ use lib.ListN.{length, take, drop, length-append}
 use lib.Seq.{take_at, length-take-le}
 use Rattle.answers.proofs.MakingLaws.{Sizes, sizes_by}
 use Rattle.answers.specs.Answers.{result, After, after, refused}
-use Rattle.lists.specs.Lists.{keep, below, count_below, every, up_to, last, written}
-use Rattle.lists.proofs.Tests.{below→lt, by_cond}
+use Rattle.lists.specs.Lists.{keep, below, every, up_to, last, written}
+use Rattle.lists.proofs.Tests.{by_cond}
 use Rattle.lists.proofs.Keeping.{every_all}
 use Rattle.lists.proofs.Counting.{order_all}
 use Rattle.lists.proofs.Prefixes.{all_up_to, up_to_ends, ends_end}
 use Rattle.layers.specs.Layer.{size}
 use Rattle.orders.specs.declared.consistent_reservoir.ConsistentReservoir.{ConsistentReservoir}
 use Rattle.orders.specs.Orders.{layer_of, P}
-use Rattle.orders.specs.Reservoirs.{opening, held}
+use Rattle.orders.specs.Reservoirs.{opening, held, counts}
 use Rattle.orders.specs.ReservoirCalls.{key_of, j_of, listed, sample, fitting, reservoir_of, open_call}
 use Rattle.orders.specs.Admissions.{Kept, Opened}
 use Rattle.orders.specs.InnerPasses.{place}
 use Rattle.orders.proofs.LogLaws.{size_suc, layer_fits, layer_in, pow_up}
 use Rattle.orders.proofs.OrderLaws.{place_order, whole_place, P_size}
-use Rattle.orders.proofs.HeldLaws.{held_at, held_count, held_sample}
+use Rattle.orders.proofs.CountsLaws.{counts→lt}
+use Rattle.orders.proofs.HeldLaws.{held_at, enough, held_count, held_sample}
 
 -- ---- what is kept from call to call
 
 pub held_place : (key j k n : ℕ) → j ≤ 14 → held key j k n ≡ held_at key (suc j) k n
 unfolding held
-held_place key j k n h = ap (up_to (below n) k) (whole_place key j h)
+held_place key j k n h = ap (up_to (counts n) k) (whole_place key j h)
 
 -- xs written over a list
 pub written_take : (xs l : List ℕ) → take (length xs) (written xs l) ≡ xs
@@ -70,13 +71,13 @@ module _ (r : ConsistentReservoir) (l : List ℕ) (s : Kept r l) where
   pub sample_is : sample r l ≡ take r.k (P (key_of r) r.n)
   unfolding sample
   sample_is =
-      ap (keep (below r.n)) list_at
+      ap (keep (counts r.n)) list_at
       ∙ held_sample (key_of r) (suc (j_of r)) r.k r.n (omega (arith, s.j_le)) s.k_le s.n_le
 
   pub sample_length : length (sample r l) ≡ r.k
   unfolding sample
   sample_length =
-      ap (λ (z : List ℕ). count_below r.n z) list_at
+      ap (λ (z : List ℕ). length (keep (counts r.n) z)) list_at
       ∙ held_count (key_of r) (suc (j_of r)) r.k r.n (omega (arith, s.j_le)) s.k_le s.n_le
 
   all_small : every (below (size (j_of r))) (listed r l) ≡ true
@@ -84,15 +85,15 @@ module _ (r : ConsistentReservoir) (l : List ℕ) (s : Kept r l) where
       ap (λ (i : ℕ). every (below i) (listed r l)) (size_suc (j_of r))
       ∙ ap (every (below (4 ^ suc (j_of r)))) list_at
       ∙ every_all (below (4 ^ suc (j_of r))) _
-      (all_up_to (below r.n) (below (4 ^ suc (j_of r))) r.k (place (key_of r) (suc (j_of r))) (order_all (place_order (key_of r) (suc (j_of r)))))
+      (all_up_to (counts r.n) (below (4 ^ suc (j_of r))) r.k (place (key_of r) (suc (j_of r))) (order_all (place_order (key_of r) (suc (j_of r)))))
 
   last_low : (k : ℕ) → r.k ≡ suc k → last (listed r l) < r.n
   unfolding last
   last_low k e =
       let f : listed r l ≡ held_at (key_of r) (suc (j_of r)) (suc k) r.n = list_at ∙ ap (λ (i : ℕ). held_at (key_of r) (suc (j_of r)) i r.n) e in
-      let t = up_to_ends (below r.n) k (place (key_of r) (suc (j_of r))) (omega (arith, s.k_le, (place_order (key_of r) (suc (j_of r))).counts r.n s.n_le)) in
+      let t = up_to_ends (counts r.n) k (place (key_of r) (suc (j_of r))) (omega (arith, e, enough (key_of r) (suc (j_of r)) r.k r.n (omega (arith, s.j_le)) s.k_le s.n_le)) in
       let g : last (listed r l) ≡ t.end = ap last f ∙ ends_end t in
-      let b : t.end < r.n = below→lt t.passes in
+      let b : t.end < r.n = counts→lt t.passes in
       omega arith
 
   -- it is never refused 12
@@ -116,7 +117,7 @@ module _ (r : ConsistentReservoir) (l : List ℕ) (s : Kept r l) where
 pub opening_held : (key k n : ℕ) → n ≤ 2 ^ 30 → opening key k n ≡ held_at key (suc (layer_of n)) k n
 unfolding opening
 opening_held key k n h =
-    ap (up_to (below n) k) (P_size key (layer_of n) (layer_in n h) ∙ whole_place key (layer_of n) (layer_in n h))
+    ap (up_to (counts n) k) (P_size key (layer_of n) (layer_in n h) ∙ whole_place key (layer_of n) (layer_in n h))
 
 -- any property of what an open says and leaves, by cases: a refusal leaves the list
 pub open_kept : (Q : After (List ℕ) ConsistentReservoir → Type 0) (k n key : ℕ) (l : List ℕ) → ((c : ℕ) → Q (refused c l))

@@ -9,10 +9,9 @@ use native.Mathlib.Numerals.{add-one}
 use native.Mathlib.Nat.{add-zero, zero-add, sub-zero}
 use native.Mathlib.Omega.{arith}
 use lib.Dec.{ltb}
-use lib.ListN.{get_or}
-use borrow.Author.Tests.{lt-ltb, le-ltb, le-leb, lt-leb}
+use lib.ListN.{length, get_or}
 use Rattle.lists.specs.Lists.{keep, below, not_below, count_below, up_to}
-use Rattle.lists.proofs.Tests.{by_below}
+use Rattle.lists.proofs.Tests.{by_test}
 use Rattle.lists.proofs.Prefixes.{up_to_zero}
 use Rattle.layers.specs.Layer.{size, layer}
 use Rattle.orders.specs.declared.scans.Scan.{Scan}
@@ -56,69 +55,63 @@ outs_none key i x N h =
 scan_eq : {a b c d : ℕ} → a ≡ b → c ≡ d → ◌≡◌ {A = Scan} (record { inputs = a; low = c }) (record { inputs = b; low = d })
 scan_eq p q = λ t. record { inputs = p t; low = q t }
 
-pub waiting_in : (b y low : ℕ) (zs : List ℕ) → least low (keep (not_below b) (y ∷ zs)) ≡ least (cond (ltb y b) low (min y low)) (keep (not_below b) zs)
-unfolding not_below
-waiting_in b y low zs =
-    by_below y b
-    (λ l. rw (lt-ltb y b l, lt-leb b y l))
-    (λ l. rw (le-ltb y b l, le-leb b y l) (sym (least_min y low (keep (not_below b) zs))))
+pub smallest_in : (q : ℕ → Bool) (y low : ℕ) (zs : List ℕ) → least low (keep q (y ∷ zs)) ≡ least (cond (q y) (min y low) low) (keep q zs)
+smallest_in q y low zs = by_test (q y) (λ t. rw t (sym (least_min y low (keep q zs)))) (λ f. rw f)
 
-scan_suc : (b l x low y : ℕ) (ys : List ℕ) → scanned b (suc l) x low (y ∷ ys) ≡ scanned b (cond (ltb y b) l (suc l)) (x + 1) (cond (ltb y b) low (min y low)) ys
-unfolding below
-scan_suc b l x low y ys =
-    by_below y b
-    (λ h. rw (lt-ltb y b h) (scan_eq (omega arith) (waiting_in b y low (up_to (below b) l ys) ∙ rw (lt-ltb y b h))))
-    (λ h. rw (le-ltb y b h) (scan_eq (omega arith) (waiting_in b y low (up_to (below b) (suc l) ys) ∙ rw (le-ltb y b h))))
+-- for any two tests
+module _ (p q : ℕ → Bool) where
+  scan_suc : (l x low y : ℕ) (ys : List ℕ) → scanned p q (suc l) x low (y ∷ ys) ≡ scanned p q (cond (p y) l (suc l)) (x + 1) (cond (q y) (min y low) low) ys
+  scan_suc l x low y ys =
+      by_test (p y)
+      (λ h. rw h (scan_eq (omega arith) (smallest_in q y low (up_to p l ys))))
+      (λ h. rw h (scan_eq (omega arith) (smallest_in q y low (up_to p (suc l) ys))))
 
-scan_step : (b l x low y : ℕ) (ys : List ℕ) → 0 < l → scanned b l x low (y ∷ ys) ≡ scanned b (cond (ltb y b) (l - 1) l) (x + 1) (cond (ltb y b) low (min y low)) ys
-scan_step b zero x low y ys h = absurd (omega arith)
-scan_step b (suc l) x low y ys h =
-    let e : suc l - 1 ≡ l = omega arith in
-    rw e (scan_suc b l x low y ys)
+  scan_step : (l x low y : ℕ) (ys : List ℕ) → 0 < l → scanned p q l x low (y ∷ ys) ≡ scanned p q (cond (p y) (l - 1) l) (x + 1) (cond (q y) (min y low) low) ys
+  scan_step zero x low y ys h = absurd (omega arith)
+  scan_step (suc l) x low y ys h =
+      let e : suc l - 1 ≡ l = omega arith in
+      rw e (scan_suc l x low y ys)
 
-scan_enough : (b l x low : ℕ) (ys : List ℕ) → l ≤ 0 → scanned b l x low ys ≡ record { inputs = x; low = low }
-scan_enough b l x low ys h =
-    let e : l ≡ 0 = omega arith in
-    rw (e, up_to_zero (below b) ys) (scan_eq (add-zero x) refl)
+  scan_enough : (l x low : ℕ) (ys : List ℕ) → l ≤ 0 → scanned p q l x low ys ≡ record { inputs = x; low = low }
+  scan_enough l x low ys h =
+      let e : l ≡ 0 = omega arith in
+      rw (e, up_to_zero p ys) (scan_eq (add-zero x) refl)
 
-scan_out : (b l x low : ℕ) → scanned b l x low [] ≡ record { inputs = x; low = low }
-scan_out b l x low = scan_eq (add-zero x) refl
+  scan_out : (l x low : ℕ) → scanned p q l x low [] ≡ record { inputs = x; low = low }
+  scan_out l x low = scan_eq (add-zero x) refl
 
-pub scan_start : (key i b k : ℕ) → scanned b k 0 (4 ^ 15) (outs key i 0 (size i - 0)) ≡ scan_of key i b k
+  -- a turn of the scan, in the code's terms
+  pub scan_turn : (key i l x low y l' low' : ℕ) {s : Scan} → x < size i → 0 < l → y ≡ layer i key x → l' ≡ cond (p y) (l - 1) l
+      → low' ≡ cond (q y) (min y low) low → scanned p q l x low (outs key i x (size i - x)) ≡ s
+      → scanned p q l' (x + 1) low' (outs key i (x + 1) (size i - (x + 1))) ≡ s
+  scan_turn key i l x low y l' low' h z e f g inv =
+      rw (f, g, e)
+      (sym (scan_step l x low (layer i key x) (outs key i (x + 1) (size i - (x + 1))) z)
+      ∙ ap (scanned p q l x low) (sym (outs_cons key i x (size i) h)) ∙ inv)
+
+  pub scan_done : (key i l x low : ℕ) {s : Scan} → l ≤ 0 → scanned p q l x low (outs key i x (size i - x)) ≡ s → record { inputs = x; low = low } ≡ s
+  scan_done key i l x low h inv = sym (scan_enough l x low (outs key i x (size i - x)) h) ∙ inv
+
+  pub scan_full : (key i l x low : ℕ) {s : Scan} → size i ≤ x → scanned p q l x low (outs key i x (size i - x)) ≡ s → record { inputs = x; low = low } ≡ s
+  scan_full key i l x low h inv = sym (scan_out l x low) ∙ ap (scanned p q l x low) (sym (outs_none key i x (size i) h)) ∙ inv
+
+pub scan_start : (key i b k : ℕ) → scanned (below b) (not_below b) k 0 (4 ^ 15) (outs key i 0 (size i - 0)) ≡ scan_of key i b k
 unfolding scan_of
 scan_start key i b k =
     let e : size i - 0 ≡ size i = omega arith in
     rw e
 
--- a turn of the scan, in the code's terms
-pub scan_turn : (key i b l x low y l' low' : ℕ) {s : Scan} → x < size i → 0 < l → y ≡ layer i key x → l' ≡ cond (ltb y b) (l - 1) l
-    → low' ≡ cond (ltb y b) low (min y low) → scanned b l x low (outs key i x (size i - x)) ≡ s
-    → scanned b l' (x + 1) low' (outs key i (x + 1) (size i - (x + 1))) ≡ s
-scan_turn key i b l x low y l' low' h p e f g inv =
-    rw (f, g, e)
-    (sym (scan_step b l x low (layer i key x) (outs key i (x + 1) (size i - (x + 1))) p)
-    ∙ ap (scanned b l x low) (sym (outs_cons key i x (size i) h)) ∙ inv)
-
-pub scan_done : (key i b l x low : ℕ) {s : Scan} → l ≤ 0 → scanned b l x low (outs key i x (size i - x)) ≡ s → record { inputs = x; low = low } ≡ s
-scan_done key i b l x low h inv = sym (scan_enough b l x low (outs key i x (size i - x)) h) ∙ inv
-
-pub scan_full : (key i b l x low : ℕ) {s : Scan} → size i ≤ x → scanned b l x low (outs key i x (size i - x)) ≡ s → record { inputs = x; low = low } ≡ s
-scan_full key i b l x low h inv = sym (scan_out b l x low) ∙ ap (scanned b l x low) (sym (outs_none key i x (size i) h)) ∙ inv
-
 -- ---- how many of a layer's first outputs have top bits 00
 
-count_cons : (b t y : ℕ) (xs : List ℕ) → t + count_below b (y ∷ xs) ≡ cond (ltb y b) (t + 1) t + count_below b xs
-unfolding below
-count_cons b t y xs =
-    by_below y b
-    (λ l. rw (lt-ltb y b l) (omega arith))
-    (λ l. rw (le-ltb y b l))
+count_cons : (p : ℕ → Bool) (t y : ℕ) (xs : List ℕ) → t + length (keep p (y ∷ xs)) ≡ cond (p y) (t + 1) t + length (keep p xs)
+count_cons p t y xs = by_test (p y) (λ h. rw h (omega arith)) (λ h. rw h)
 
 pub rank_turn : (key i u x t y t' : ℕ) {s : ℕ} → x < u → y ≡ layer i key x → t' ≡ cond (ltb y (4 ^ i)) (t + 1) t
     → t + count_below (4 ^ i) (outs key i x (u - x)) ≡ s → t' + count_below (4 ^ i) (outs key i (x + 1) (u - (x + 1))) ≡ s
+unfolding below
 rank_turn key i u x t y t' h e f inv =
     rw (f, e)
-    (sym (count_cons (4 ^ i) t (layer i key x) (outs key i (x + 1) (u - (x + 1))))
+    (sym (count_cons (below (4 ^ i)) t (layer i key x) (outs key i (x + 1) (u - (x + 1))))
     ∙ ap (λ (l : List ℕ). t + count_below (4 ^ i) l) (sym (outs_cons key i x u h)) ∙ inv)
 
 pub rank_start : (key i u : ℕ) → 0 + count_below (4 ^ i) (outs key i 0 (u - 0)) ≡ rank_of key i u

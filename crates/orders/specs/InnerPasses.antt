@@ -1,7 +1,7 @@
 -- What the promises of private functions on lists and layers say. No public promise cites this file.
 -- Assumes nothing.
 use Rattle.std.specs.Prelude as rust
-use Rattle.std.specs.Prelude.{Some, None, cond, List, [], ◌∷◌, ◌++◌, map, ℕ, zero, suc, ◌+◌, ◌^◌, min, ltb, eqb, length, take, drop}
+use Rattle.std.specs.Prelude.{Bool, Some, None, cond, List, [], ◌∷◌, ◌++◌, map, ℕ, zero, suc, ◌+◌, ◌^◌, min, ltb, eqb, length, take, drop}
 use Rattle.std.proofs.Math.Option.{Option, none, some}
 use Rattle.std.specs.Int.Bits.{bit_or}
 use Rattle.lists.specs.Lists.{keep, below, not_below, count_below, from, up_to, replace}
@@ -10,7 +10,7 @@ use Rattle.orders.specs.declared.consistent_reservoir.ConsistentReservoir.{Consi
 use Rattle.orders.specs.declared.scans.Scan.{Scan}
 use Rattle.orders.specs.declared.scans.Wide.{Wide}
 use Rattle.orders.specs.declared.checks.Survey.{Survey}
-use Rattle.orders.specs.Reservoirs.{outputs, up_to_zeros, wider}
+use Rattle.orders.specs.Reservoirs.{counts, outputs, up_to_zeros, wider}
 use Rattle.orders.specs.declared.consistent_reservoir.Exchange.{Exchange}
 use Rattle.orders.specs.ReservoirCalls.{listed, fitting}
 
@@ -34,13 +34,13 @@ low_of n xs = least (4 ^ 15) (keep (not_below n) xs)
 
 -- ---- scans of a layer
 
--- The outputs ys, up to and with the one that is the last of `left` below b: x and as many, and the smallest that is not
--- below b, at most `low`
-abbrev pub scanned : ℕ → ℕ → ℕ → ℕ → List ℕ → Scan
-scanned b left x low ys = record { inputs = x + length (up_to (below b) left ys); low = least low (keep (not_below b) (up_to (below b) left ys)) }
+-- The outputs ys, up to and with the one that is the last of `left` that pass the test p: x and as many, and the smallest that
+-- passes q, at most `low`
+abbrev pub scanned : (ℕ → Bool) → (ℕ → Bool) → ℕ → ℕ → ℕ → List ℕ → Scan
+scanned p q left x low ys = record { inputs = x + length (up_to p left ys); low = least low (keep q (up_to p left ys)) }
 
 unfoldable pub scan_of : ℕ → ℕ → ℕ → ℕ → Scan
-scan_of key i b k = scanned b k 0 (4 ^ 15) (outputs key i)
+scan_of key i b k = scanned (below b) (not_below b) k 0 (4 ^ 15) (outputs key i)
 
 -- how many of the first u outputs of layer i have top bits 00
 unfoldable pub rank_of : ℕ → ℕ → ℕ → ℕ
@@ -71,11 +71,13 @@ abbrev pub or_all : ℕ → List ℕ → ℕ
 or_all h [] = h
 or_all h (x ∷ xs) = or_all (bit_or h x) xs
 
-abbrev pub surveyed : ℕ → ℕ → ℕ → ℕ → List ℕ → Survey
-surveyed n c low high xs = record { count = c + count_below n xs; low = least low (keep (not_below n) xs); high = or_all high xs }
+-- how many pass the test p, from c on, and the smallest that passes q, at most `low`
+abbrev pub surveyed : (ℕ → Bool) → (ℕ → Bool) → ℕ → ℕ → ℕ → List ℕ → Survey
+surveyed p q c low high xs = record { count = c + length (keep p xs); low = least low (keep q xs); high = or_all high xs }
 
+-- how many belong to the sample, and the smallest that waits
 unfoldable pub survey_of : ℕ → List ℕ → Survey
-survey_of n xs = surveyed n 0 (4 ^ 15) 0 xs
+survey_of n xs = surveyed (counts n) (not_below n) 0 (4 ^ 15) 0 xs
 
 -- the smallest listed number not below n, if the record fits its list
 unfoldable pub check_of : ConsistentReservoir → List ℕ → rust.Option ℕ

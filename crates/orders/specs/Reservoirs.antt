@@ -9,7 +9,7 @@ use Rattle.layers.specs.Layer.{size, layer}
 use Rattle.orders.specs.Orders.{layer_of, zero_top, whole, P}
 
 -- the one test of what belongs to the sample: "the list's numbers below n"
-abbrev pub counts : ℕ → ℕ → Bool
+unfoldable pub counts : ℕ → ℕ → Bool
 counts n = below n
 
 -- "Open with k of n: the list holds P(4^(j+1)), j the layer of n, up to and with its k-th number below n."

@@ -1,7 +1,8 @@
 // Lists written in place, from the back, with no scratch.
 ghost use Rattle.std.specs.Prelude.{◌≡◌, ◌^◌, ◌≤◌, length};
-ghost use Rattle.lists.specs.Lists.{keep, below, count_below, written};
+ghost use Rattle.lists.specs.Lists.{keep, written};
 ghost use Rattle.layers.specs.Layer.{size};
+ghost use Rattle.orders.specs.Reservoirs.{counts};
 ghost use Rattle.orders.specs.InnerPasses.{rank_of, laid_of, placed};
 
 use crate::layer::Layer;
@@ -47,8 +48,8 @@ pub(crate) fn lay(m: u32, key: u64, list: &mut [u32])
 
 // The listed numbers below n, in order, over another list.
 pub(crate) fn gather(list: &[u32], n: u32, out: &mut [u32])
-    requires { count_below n list.now ≤ length out.old }
-    ensures { out.new ≡ written (keep (below n) list.now) out.old }
+    requires { length (keep (counts n) list.now) ≤ length out.old }
+    ensures { out.new ≡ written (keep (counts n) list.now) out.old }
 {
     for (t, x) in list.iter().filter(|x| **x < n).enumerate() {
         out[t] = *x;

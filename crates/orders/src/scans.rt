@@ -1,9 +1,9 @@
 // Layers looked through without writing: lengths and the numbers that an admit brings in are known before the first write.
 // Each turn of a pass is without a branch on what it finds, so that the compiler takes several at once.
 ghost use Rattle.std.specs.Prelude.{◌≡◌, ◌+◌, ◌≤◌, ◌<◌, length};
-ghost use Rattle.lists.specs.Lists.{below, standing};
+ghost use Rattle.lists.specs.Lists.{standing};
 ghost use Rattle.layers.specs.Layer.{size};
-ghost use Rattle.orders.specs.Reservoirs.{outputs};
+ghost use Rattle.orders.specs.Reservoirs.{counts, outputs};
 ghost use Rattle.orders.specs.InnerPasses.{scan_of, rank_of, wide_of};
 
 use crate::layer::Layer;
@@ -61,7 +61,7 @@ impl Outputs {
     pub(crate) fn standing(self, v: u32, k: u32, u: u32) -> u32
         requires few { k ≤ u }
         requires fit { u ≤ size self.layer.number }
-        ensures { result ≡ standing (below (v + 1)) k (outputs self.key self.layer.number) u }
+        ensures { result ≡ standing (counts (v + 1)) k (outputs self.key self.layer.number) u }
     {
         for p in (k..u).rev() {
             if self.at(p) <= v {
@@ -77,7 +77,7 @@ impl Outputs {
 pub(crate) fn standing(list: &[u32], v: u32, k: u32) -> u32
     requires few { k ≤ length list.now }
     requires fit { length list.now < 4294967296 }
-    ensures { result ≡ standing (below (v + 1)) k list.now (length list.now) }
+    ensures { result ≡ standing (counts (v + 1)) k list.now (length list.now) }
 {
     for p in (k..list.len() as u32).rev() {
         if list[p as usize] <= v {

@@ -17,9 +17,13 @@ use Rattle.std.proofs.lemmas.Iterator.Consumers.{YieldsList-turn, YieldsList-end
 use Rattle.std.specs.List.{filter, enumerate_from}
 use Rattle.std.proofs.lemmas.List.FromFn.{length-enumerate_from, get_or-enumerate_from}
 use Rattle.std.proofs.Math.Seq.{take-length}
-use Rattle.lists.specs.Lists.{below, written}
+use lib.Dec.{ltb}
+use Rattle.lists.specs.Lists.{written}
 use Rattle.answers.specs.Refusals.{optional}
+use Rattle.lists.proofs.Keeping.{keep_same}
 use Rattle.lists.proofs.Writing.{written_more}
+use Rattle.orders.specs.Reservoirs.{counts}
+use Rattle.orders.proofs.CountsLaws.{counts_ltb}
 use Rattle.orders.proofs.GatherLaws.{filter_is_keep}
 use Rattle.orders.specs.ReservoirCalls.{sample}
 use Rattle.choosers.specs.Slots.{state_of}
@@ -45,9 +49,9 @@ slot_lent key total t x s places lent e h = e ∙ ap (λ (q : ℕ). dealt_to key
 
 -- ---- the sample as the loop filters it
 
-pub filter_is_sample : (r : Round) (list : List ℕ) → filter (below r.n) (take r.used list) ≡ sample (reservoir_of r) list
+pub filter_is_sample : (r : Round) (list : List ℕ) → filter (λ x. ltb x r.n) (take r.used list) ≡ sample (reservoir_of r) list
 unfolding sample
-filter_is_sample r list = filter_is_keep (below r.n) (take r.used list)
+filter_is_sample r list = filter_is_keep (λ x. ltb x r.n) (take r.used list) ∙ keep_same _ (counts r.n) (λ x. sym (counts_ltb r.n x)) (take r.used list)
 
 -- ---- the loop
 

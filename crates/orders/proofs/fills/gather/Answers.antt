@@ -3,27 +3,29 @@
 use Rattle.std.proofs.Common.{rules, tests, ◌≡◌, ◌<◌, length, ltb}
 use mathlib.Core.List.{[], ◌∷◌}
 use lib.ListN.{set, length-append}
-use mathlib.Core.Path.{ap, subst, ◌∙◌}
+use mathlib.Core.Path.{ap, sym, subst, ◌∙◌}
 use native.Mathlib.Omega.{arith}
 use Rattle.std.specs.List.{filter}
 use Rattle.std.specs.Iterator.Adapters.{enumerate_count}
 use Rattle.std.proofs.lemmas.Iterator.{YieldsList, YieldsList-from_slice}
 use Rattle.std.proofs.lemmas.Iterator.Consumers.{YieldsList-at, YieldsList-from_filter, YieldsList-turn, YieldsList-end}
-use Rattle.lists.specs.Lists.{keep, below, written}
+use Rattle.lists.specs.Lists.{keep, written}
+use Rattle.lists.proofs.Keeping.{keep_same}
+use Rattle.orders.specs.Reservoirs.{counts}
+use Rattle.orders.proofs.CountsLaws.{counts_ltb}
 use Rattle.orders.proofs.GatherLaws.{came_none, came_length, came_more, filter_is_keep, values_yielded}
 use Rattle.orders.proofs.fills.gather.Given as given
 use Rattle.orders.proofs.fills.gather.Goals as goal
 use Rattle.orders.proofs.fills.gather.Goals.{At-loop-t, In-Some}
 
--- the numbers below n come
-road : (c : At-loop-t) → YieldsList given.iterator-loop-t.next_gives (λ p. p.1.now) c.into_iter-t-iterator.result (keep (below c.args.n) c.args.list.now)
-unfolding below
+-- the numbers of the sample come
+road : (c : At-loop-t) → YieldsList given.iterator-loop-t.next_gives (λ p. p.1.now) c.into_iter-t-iterator.result (keep (counts c.args.n) c.args.list.now)
 road c =
     let all : YieldsList given.iterator-loop-t.next_gives (λ p. p.1.now) c.enumerate-t-items.result (filter (λ x. ltb x c.args.n) c.args.list.now)
     = values_yielded _ (λ x. x.now) _ c.enumerate-t-items.result
     (YieldsList-at c.enumerate-t-items.ensures.source
     (YieldsList-from_filter _ (λ x. ltb x c.args.n) (YieldsList-from_slice c.args.list.now cc) c.filter.ensures.closure (λ x r q k. search (rules, tests)))) in
-    YieldsList-at c.into_iter-t-iterator.ensures.into_iter_gives (subst (YieldsList _ (λ p. p.1.now) c.enumerate-t-items.result) (filter_is_keep (below c.args.n) c.args.list.now) all)
+    YieldsList-at c.into_iter-t-iterator.ensures.into_iter_gives (subst (YieldsList _ (λ p. p.1.now) c.enumerate-t-items.result) (filter_is_keep (λ x. ltb x c.args.n) c.args.list.now ∙ keep_same _ (counts c.args.n) (λ x. sym (counts_ltb c.args.n x)) c.args.list.now) all)
 
 -- there is room for one more
 room : (c : In-Some) → length c.loop-t.yielded < length c.args.out.now

@@ -7,8 +7,8 @@ use native.Mathlib.Omega.{arith}
 use Rattle.std.specs.Prelude.{Some}
 use lib.ListN.{length, take}
 use lib.Seq.{length-take-le}
-use Rattle.lists.specs.Lists.{below, standing}
-use Rattle.orders.specs.Reservoirs.{outputs}
+use Rattle.lists.specs.Lists.{standing}
+use Rattle.orders.specs.Reservoirs.{counts, outputs}
 use Rattle.orders.specs.ReservoirCalls.{key_of, j_of, fitting}
 use Rattle.orders.specs.InnerPasses.{wide_of}
 use Rattle.orders.proofs.CoverLaws.{laid_over}
@@ -22,7 +22,7 @@ asked : (c : Start) → (fitting c.args.self.now c.args.list.now ≡ true)
 asked c = (c.requires.fit, c.requires.full, c.requires.wide)
 
 end_is : (c : After-standing-end)
-    → c.standing-end.result ≡ standing (below (c.args.w.low + 1)) c.args.self.now.k (outputs (key_of c.args.self.now) c.args.w.layer) (c.args.w.inputs - 1)
+    → c.standing-end.result ≡ standing (counts (c.args.w.low + 1)) c.args.self.now.k (outputs (key_of c.args.self.now) c.args.w.layer) (c.args.w.inputs - 1)
 end_is c =
     let e = c.new-outputs.ensures in
     rw (e.layer, e.key) at c.standing-end.ensures

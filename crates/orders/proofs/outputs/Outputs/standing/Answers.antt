@@ -4,10 +4,10 @@ use mathlib.Core.Path.{◌≡◌, sym, ◌∙◌}
 use Prim.Native.Nat.{◌+◌, ◌-◌}
 use native.Mathlib.Omega.{arith}
 use lib.ListN.{get_or}
-use Rattle.lists.proofs.Tests.{below_yes, below_no}
 use Rattle.lists.proofs.Standing.{standing_stop, standing_go, standing_end}
 use Rattle.orders.specs.Reservoirs.{outputs}
 use Rattle.orders.proofs.ScanLaws.{output_at}
+use Rattle.orders.proofs.CountsLaws.{counts_yes, counts_no}
 use Rattle.orders.proofs.outputs.Outputs.standing.Goals as goal
 use Rattle.orders.proofs.outputs.Outputs.standing.Goals.{After-at}
 
@@ -18,11 +18,11 @@ is c = output_at _ _ _ (omega (arith, c.requires.fit)) ∙ sym c.at.ensures
 pub returns-then-at-v : goal.returns-then-at-v
 returns-then-at-v c =
     let e : c.loop-p.p - 1 + 1 ≡ c.loop-p.p = omega arith in
-    rw e (sym (standing_stop _ _ _ _ (omega arith) (below_yes _ _ (omega (arith, is (goal.at.returns-then-at-v c).After-at)))) ∙ c.loop-p.invariant.1)
+    rw e (sym (standing_stop _ _ _ _ (omega arith) (counts_yes _ _ (omega (arith, is (goal.at.returns-then-at-v c).After-at)))) ∙ c.loop-p.invariant.1)
 
 pub loop-p-preserved : goal.loop-p-preserved
 loop-p-preserved c =
-    (omega arith, sym (standing_go _ _ _ _ (omega arith) (below_no _ _ (omega (arith, is (goal.at.loop-p-preserved c).After-at)))) ∙ c.loop-p.invariant.1)
+    (omega arith, sym (standing_go _ _ _ _ (omega arith) (counts_no _ _ (omega (arith, is (goal.at.loop-p-preserved c).After-at)))) ∙ c.loop-p.invariant.1)
 
 pub returns : goal.returns
 returns c =
