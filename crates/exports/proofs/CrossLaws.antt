@@ -1,79 +1,45 @@
--- What the calls on reservoirs leave, in the terms of their code.
+-- What a call leaves as it crosses, in the terms of its code: once for any record, and for any call on it.
 -- Assumes nothing.
-use mathlib.Core.Path.{◌≡◌, refl, sym, ap, ◌∙◌}
-use mathlib.Core.Bool.{Bool}
+use mathlib.Core.Path.{◌≡◌, sym, ap, ◌∙◌}
 use mathlib.Core.List.{List}
 use Prim.Native.Nat.{ℕ, ◌+◌, ◌^◌, ◌≤◌, ◌<◌}
 use borrow.Author.Tests.{lt-ltb, le-ltb}
 use lib.ListN.{length}
-use Rattle.std.specs.Prelude.{Option, Result}
-use Rattle.answers.specs.Answers.{Answer, result, refusal}
+use Rattle.answers.specs.Answers.{After}
 use Rattle.lists.specs.Lists.{written}
-use Rattle.answers.specs.declared.Refusal.{Refusal}
-use Rattle.answers.specs.Refusals.{answer_of}
-use Rattle.orders.specs.declared.consistent_reservoir.Exchange.{Exchange}
-use Rattle.orders.specs.declared.consistent_reservoir.ConsistentReservoir.{ConsistentReservoir}
-use Rattle.orders.specs.ReservoirCalls.{fitting, after, after_open, open_call, short_refusal, answer_of_exchange, admit_call, grow_layer_call, after_sample, sample_call}
-use Rattle.exports.specs.Coded.{truth, coded_done}
-use Rattle.exports.specs.Crossings.{crossed, crossed_one, words_after}
+use Rattle.exports.specs.Coded.{coded_by}
+use Rattle.exports.specs.Crossings.{Crossed, crossed, Layout, Lending, enough, words_by, made, called, read_by, fits_by}
 use Rattle.exports.specs.InnerRecords.{made_over}
-use Rattle.exports.specs.Reservoirs.{words_of, opened_as, record_of, coded_exchange, new_crossed, next_crossed, grow_crossed, sample_crossed, fits_crossed}
+use Rattle.exports.proofs.KeptLaws.{kept_made}
 
--- ---- new
+module _ {R : Type 0} (y : Layout R) (ws : List ℕ) where
+  -- ---- too few words
 
-pub new_short : (k n key : ℕ) (l ws : List ℕ) (r w : ℕ) → r ≡ 2 ^ 63 + w → w ≡ short_refusal (2 ^ 30) 1 k n → length ws < 6 → crossed r ws l ≡ new_crossed k n key l ws
-unfolding new_crossed
-new_short k n key l ws r w e s h = rw (e, s, lt-ltb (length ws) 6 h)
+  pub too_few : length ws < y.count → {M : Type 0} (x w : ℕ) (m : M) (a : Crossed M) → x ≡ 2 ^ 63 + w → crossed x m ≡ enough y w ws m a
+  too_few h x w m a e = rw (e, lt-ltb (length ws) y.count h)
 
-pub opened_is : (ws l : List ℕ) (t : Answer ConsistentReservoir) → crossed (coded_done t) (made_over (λ w r. written (words_of r) w) ws t) l ≡ opened_as ws t l
-opened_is ws l (result r) = refl
-opened_is ws l (refusal c) = refl
+  pub fits_few : length ws < y.count → (x b : ℕ) → x ≡ 2 ^ 63 + 4 → x ≡ fits_by y ws b
+  fits_few h x b e = rw (e, lt-ltb (length ws) y.count h)
 
-pub new_crosses : (k n key : ℕ) (l ws l' ws' : List ℕ) (o : Result ConsistentReservoir Refusal) (a : ℕ) → after_open (answer_of o) l' ≡ open_call k n key l → 6 ≤ length ws
-    → a ≡ coded_done (answer_of o) → ws' ≡ made_over (λ w r. written (words_of r) w) ws (answer_of o) → crossed a ws' l' ≡ new_crossed k n key l ws
-unfolding new_crossed
-new_crosses k n key l ws l' ws' o a e h x y = rw (le-ltb (length ws) 6 h, ← e, x, y) (opened_is ws l' (answer_of o))
+  -- ---- enough of them
 
--- ---- admit
+  module _ (h : y.count ≤ length ws) where
+    pub made_is : {N M : Type 0} (short : ℕ) (lay : List ℕ → N → M) (n : N) (a : After N R) (x : ℕ) (ws' : List ℕ)
+        → x ≡ coded_by (λ r. 0) a.answer → ws' ≡ made_over (λ w r. written (y.words r) w) ws a.answer
+        → crossed x (lay ws' a.left) ≡ made y short lay ws n a
+    made_is short lay n a x ws' e f = rw (le-ltb (length ws) y.count h) (λ i. crossed (e i) (lay ((f ∙ kept_made y.words ws a.answer) i) a.left))
 
-pub next_short : (ws l : List ℕ) (r : ℕ) → r ≡ 2 ^ 63 + 4 → length ws < 6 → crossed r ws l ≡ next_crossed ws l
-unfolding next_crossed
-next_short ws l r e h = rw (e, lt-ltb (length ws) 6 h)
+    pub read_is : {M A : Type 0} (value : A → ℕ) (m : M) (a : After M A) (x : ℕ) → x ≡ coded_by value a.answer → crossed x a.left ≡ read_by y value ws m a
+    read_is value m a x e = rw (le-ltb (length ws) y.count h) (λ i. crossed (e i) a.left)
 
-pub next_crosses : (ws l ws' l' : List ℕ) (r b : ConsistentReservoir) (e : Result (Option Exchange) Refusal) (x : ℕ) → r ≡ record_of ws → after (answer_of_exchange e) b l' ≡ admit_call r l → 6 ≤ length ws
-    → ws' ≡ words_after ws (answer_of_exchange e) (words_of b) → x ≡ coded_exchange (answer_of_exchange e) → crossed x ws' l' ≡ next_crossed ws l
-unfolding next_crossed
-next_crosses ws l ws' l' r b e x is f h w c =
-    let from_words : admit_call (record_of ws) l ≡ after (answer_of_exchange e) b l' = sym (f ∙ ap (λ (z : ConsistentReservoir). admit_call z l) is) in
-    rw (le-ltb (length ws) 6 h, from_words, w, c)
+    pub fits_is : (x b : ℕ) → x ≡ b → x ≡ fits_by y ws b
+    fits_is x b e = rw (le-ltb (length ws) y.count h) e
 
--- ---- grow_layer
-
-pub grow_short : (ws l : List ℕ) (r : ℕ) → r ≡ 2 ^ 63 + 4 → length ws < 6 → crossed r ws l ≡ grow_crossed ws l
-unfolding grow_crossed
-grow_short ws l r e h = rw (e, lt-ltb (length ws) 6 h)
-
-pub grow_crosses : (ws l ws' l' : List ℕ) (r b : ConsistentReservoir) (e : Result (Unit {0}) Refusal) (x : ℕ) → r ≡ record_of ws → after (answer_of e) b l' ≡ grow_layer_call r l → 6 ≤ length ws
-    → ws' ≡ words_after ws (answer_of e) (words_of b) → x ≡ coded_done (answer_of e) → crossed x ws' l' ≡ grow_crossed ws l
-unfolding grow_crossed
-grow_crosses ws l ws' l' r b e x is f h w c =
-    let from_words : grow_layer_call (record_of ws) l ≡ after (answer_of e) b l' = sym (f ∙ ap (λ (z : ConsistentReservoir). grow_layer_call z l) is) in
-    rw (le-ltb (length ws) 6 h, from_words, w, c)
-
--- ---- the sample, and the test
-
-pub sample_few : (ws l o : List ℕ) (r : ℕ) → r ≡ 2 ^ 63 + 4 → length ws < 6 → crossed_one r o ≡ sample_crossed ws l o
-unfolding sample_crossed
-sample_few ws l o r e h = rw (e, lt-ltb (length ws) 6 h)
-
-pub sample_coded : (ws l o : List ℕ) (r : ConsistentReservoir) (a : Result (Unit {0}) Refusal) (o' : List ℕ) (x : ℕ) → r ≡ record_of ws → after_sample (answer_of a) o' ≡ sample_call r l o
-    → x ≡ coded_done (answer_of a) → 6 ≤ length ws → crossed_one x o' ≡ sample_crossed ws l o
-unfolding sample_crossed
-sample_coded ws l o r a o' x is e w h =
-    let f : sample_call (record_of ws) l o ≡ after_sample (answer_of a) o' = sym (e ∙ ap (λ (z : ConsistentReservoir). sample_call z l o) is) in
-    rw (le-ltb (length ws) 6 h, f, w)
-
-pub fits_coded : (ws l : List ℕ) (r : ConsistentReservoir) (b : Bool) (x : ℕ) → r ≡ record_of ws → b ≡ fitting r l → x ≡ truth b → 6 ≤ length ws
-    → x ≡ fits_crossed ws l
-unfolding fits_crossed
-fits_coded ws l r b x is e w h = rw (le-ltb (length ws) 6 h) (w ∙ ap truth e ∙ ap (λ (z : ConsistentReservoir). truth (fitting z l)) is)
+-- a call on the record in the words, which with the rest is `of` that record
+module _ {R S M : Type 0} (d : Lending R S M) (of : R → S) (ws : List ℕ) (h : d.layout.count ≤ length ws) where
+  pub called_is : {A : Type 0} (value : A → ℕ) (call : S → After S A) (r : R) (a : After S A) (x : ℕ) (ws' : List ℕ)
+      → r ≡ d.layout.reads ws → a ≡ call (of r) → x ≡ coded_by value a.answer → ws' ≡ words_by (λ v. d.layout.words (d.own a.left)) ws a.answer
+      → crossed x (d.lay ws' a.left) ≡ called d value ws (of (d.layout.reads ws)) call
+  called_is value call r a x ws' is e f g =
+      let from_words : call (of (d.layout.reads ws)) ≡ a = sym (e ∙ ap (λ (z : R). call (of z)) is) in
+      rw (le-ltb (length ws) d.layout.count h, from_words) (λ i. crossed (f i) (d.lay (g i) a.left))

@@ -10,10 +10,10 @@ use Rattle.std.specs.Prelude.{true, Result, Ok, Err, is_ok}
 use Rattle.std.specs.Prelude as rust
 use Rattle.answers.specs.declared.Refusal.{Refusal}
 use Rattle.answers.specs.Refusals.{answer_of_option}
-use Rattle.answers.specs.Answers.{result, refusal}
+use Rattle.answers.specs.Answers.{result, refusal, after}
 use Rattle.hashes.specs.Hashes.{feed}
 use Rattle.hashes.specs.Calls.{limited}
-use Rattle.answers.specs.Steps.{Step, after}
+use Rattle.answers.specs.Steps.{Step}
 use Rattle.answers.proofs.Turns.{Turn, ended, gave}
 use Rattle.hashes.proofs.CallLaws.{limited_in, limited_out, limited_says, limited_refuses}
 use Rattle.exports.specs.Coded.{fed_all, digest, coded_number}

@@ -4,7 +4,6 @@ pub mod DigestLaws
 pub mod CrossLaws
 pub mod OrderCrossLaws
 pub mod OrderFedLaws
-pub mod ChooserCrossLaws
 pub mod SlotCrossLaws
 pub mod RoundCrossLaws
 pub mod TooFewLaws

@@ -10,7 +10,7 @@ use borrow.Author.Tests.{le-ltb}
 use lib.ListN.{take}
 use lib.Seq.{take-nil}
 use Rattle.std.specs.Prelude.{Result, Ok, Err, is_ok}
-use Rattle.answers.specs.Answers.{Answer, map_answer}
+use Rattle.answers.specs.Answers.{Answer, map_answer, after}
 use Rattle.answers.proofs.Turns.{Turn, ended, gave}
 use Rattle.answers.specs.declared.Refusal.{Refusal}
 use Rattle.answers.specs.Refusals.{answer_of}
@@ -18,7 +18,7 @@ use Rattle.answers.proofs.BackLaws.{answer_ok}
 use Rattle.orders.specs.declared.consistent_permutation.ConsistentPermutation.{ConsistentPermutation}
 use Rattle.orders.specs.declared.order_walk.OrderWalk.{OrderWalk}
 use Rattle.orders.specs.Orders.{none_counted, P}
-use Rattle.orders.specs.OrderCalls.{order_of, new_call, step, next_call, walk_new_call}
+use Rattle.orders.specs.OrderCalls.{order_of, new_call, next_call, walk_new_call}
 use Rattle.orders.proofs.OrderWalks.{Going, rest_of, next_turn, going_new, going_tested, rest_new}
 use Rattle.exports.specs.Coded.{fed_all}
 use Rattle.exports.specs.InnerDigests.{fed_with}

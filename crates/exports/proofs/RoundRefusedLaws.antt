@@ -2,132 +2,81 @@
 -- that was lent as it was. Plan and replay, which are lent a scratch, are taken by their promise.
 -- Assumes nothing.
 use mathlib.Core.Path.{◌≡◌, refl, sym, subst}
-use mathlib.Core.Bool.{cond}
-use mathlib.Core.List.{List, ◌∷◌}
-use Prim.Native.Nat.{ℕ, ◌+◌, ◌^◌, ◌≤◌}
+use mathlib.Core.List.{List}
+use Prim.Native.Nat.{ℕ, ◌^◌, ◌≤◌}
 use native.Mathlib.Omega.{arith}
-use lib.Dec.{ltb}
 use lib.ListN.{length}
 use Rattle.answers.specs.Answers.{Answer, refusal, result}
-use Rattle.answers.specs.Refusing.{Spares}
-use Rattle.answers.proofs.Spared.{spared_under}
-use Rattle.orders.specs.ReservoirCalls as ReservoirCalls
+use Rattle.answers.specs.Making.{short_refusal}
 use Rattle.orders.proofs.RefusedLaws as orders
-use Rattle.rounds.specs.declared.round.Round.{Round}
-use Rattle.rounds.specs.Rounds.{State, state, fitting, open_call, admit_call, join_call, withdraw_call}
-use Rattle.rounds.specs.Plans.{AfterPlan, after_plan, plan_call}
-use Rattle.rounds.specs.Replays.{AfterReplay, after_replay, replay_call}
-use Rattle.rounds.specs.RefusedBy as called
+use Rattle.rounds.specs.Rounds.{State, fitting, open_call, admit_call, join_call, withdraw_call}
+use Rattle.rounds.specs.Plans.{PlanLists, plan_lists, plan_call}
+use Rattle.rounds.specs.Replays.{ReplayMemory, replay_memory, replay_call}
+use Rattle.rounds.specs.RefusedBy as library
 use Rattle.rounds.proofs.RefusedLaws as rounds
-use Rattle.exports.specs.Coded.{coded_number, coded_done}
-use Rattle.exports.specs.Crossings.{crossed, words_after}
-use Rattle.exports.specs.Reservoirs as Reservoir
+use Rattle.exports.specs.Coded.{truth}
+use Rattle.exports.specs.Crossings.{Crossed, crossed, words_list}
+use Rattle.exports.specs.Reservoirs.{exchange_number}
 use Rattle.exports.specs.Slots as Slots
-use Rattle.exports.specs.Rounds as Round
-use Rattle.exports.proofs.TooFewLaws.{first_four, four, by_words, fits_crosses}
-use Rattle.exports.proofs.RefusedLaws.{WordsSpared}
+use Rattle.exports.specs.Rounds.{Lent, round_in, round_layout, round_lending, open_crossed, admit_crossed, join_crossed, withdraw_crossed, plan_crossed, fits_crossed, replay_crossed, ReplayScratchAs}
+use Rattle.exports.proofs.TooFewLaws.{made_refuses, read_refuses, called_refuses, fits_refuses}
 use Rattle.exports.specs.RefusedBy.{Crosses, said_else, said_by, words_refusals, round_admit_refusals, round_join_refusals, round_withdraw_refusals, round_plan_refusals}
 
-pub round_fits_refuses : (ws l t : List ℕ) → let w = said_by 7 ws (result (fitting (state (Round.round_as ws) l t))) in
-    Crosses {M = Unit {0}} Slots.coded_truth words_refusals w (Round.fits_crossed ws l t) tt tt
-unfolding Round.fits_crossed
-round_fits_refuses ws l t = fits_crosses ws 7 _
+pub round_open_refuses : (key k n : ℕ) (ws l : List ℕ) → let t = said_else (short_refusal (2 ^ 30) 1 k n) 7 ws (open_call key k n l).answer in
+    let a = open_crossed key k n ws l in Crosses (λ r. 0) library.open_refusals t a.answer (words_list ws l) a.left
+unfolding open_crossed
+round_open_refuses key k n ws l =
+    made_refuses round_layout ws _ words_list l library.open_refusals (open_call key k n l) (orders.short_refuses k n) (rounds.open_refuses key k n l)
 
-module _ (ws l : List ℕ) where
-  round_opened : (t : Answer Round) (l' : List ℕ) → Spares called.open_refusals t l l'
-      → WordsSpared ws l coded_done called.open_refusals t (crossed (coded_done t) (Round.words_opened ws t) l')
-  round_opened (refusal c) l' s = (refl, (s.0, (λ i. crossed (2 ^ 63 + c) ws (s.1 i))))
-  round_opened (result r) l' s = (refl, tt)
+module _ (x : Lent) where
+  pub round_admit_refuses : let o = said_by 7 x.words (admit_call (round_in x)).answer in
+      let a = admit_crossed x in Crosses exchange_number round_admit_refusals o a.answer x a.left
+  unfolding admit_crossed
+  round_admit_refuses = called_refuses round_lending _ _ x.words (round_in x) admit_call (rounds.admit_refuses (round_in x))
 
-  pub round_open_refuses : (key k n : ℕ) → let t = said_else (short_refusal (2 ^ 30) 1 k n) 7 ws (open_call key k n l).answer in
-      let a = Round.open_crossed key k n l ws in Crosses coded_done called.open_refusals t a.answer (crossed a.answer ws l) a
-  unfolding Round.open_crossed
-  round_open_refuses key k n =
-      let o = open_call key k n l in
-      by_words (WordsSpared ws l coded_done called.open_refusals) (ltb (length ws) 7)
-      (refl, (orders.short_refuses k n, refl))
-      (round_opened o.answer o.list (rounds.open_refuses key k n l))
+  pub round_join_refuses : let o = said_by 7 x.words (join_call (round_in x)).answer in
+      let a = join_crossed x in Crosses (λ slot. slot) round_join_refusals o a.answer x a.left
+  unfolding join_crossed
+  round_join_refuses = called_refuses round_lending _ _ x.words (round_in x) join_call (rounds.join_refuses (round_in x))
 
-module _ (ws l t : List ℕ) where
-  abbrev RoundSpared : {A : Type 0} → (Answer A → ℕ) → List ℕ → Answer A → Round.CrossedRound → Type 0
-  RoundSpared code vs o a = Crosses code vs o a.answer (Round.crossed_round a.answer ws l t) a
+  pub round_withdraw_refuses : (slot : ℕ) → let o = said_by 7 x.words (withdraw_call (round_in x) slot).answer in
+      let a = withdraw_crossed slot x in Crosses (λ u. 0) round_withdraw_refusals o a.answer x a.left
+  unfolding withdraw_crossed
+  round_withdraw_refuses slot = called_refuses round_lending _ _ x.words (round_in x) (λ (s : State). withdraw_call s slot) (rounds.withdraw_refuses (round_in x) slot)
 
-  -- the words go with the round
-  round_spared : {A : Type 0} (code : Answer A → ℕ) (vs : List ℕ) (o : Answer A) (rs : List ℕ) (s' : State) → Spares vs o (state (Round.round_as ws) l t) s'
-      → Spares vs o (Round.crossed_round (code o) ws l t) (Round.crossed_round (code o) (words_after ws o rs) s'.list s'.table)
-  round_spared code vs (refusal w) rs s' h = (h.0, (λ i. Round.crossed_round (code (refusal w)) ws (h.1 i).list (h.1 i).table))
-  round_spared code vs (result x) rs s' h = tt
-
-  -- a call on the record in the words
-  on_round : {A : Type 0} (code : Answer A → ℕ) (vs : List ℕ) (o : Answer A) (rs : List ℕ) (s' : State) → code (refusal 4) ≡ 2 ^ 63 + 4
-      → Spares vs o (state (Round.round_as ws) l t) s'
-      → RoundSpared code (4 ∷ vs) (said_by 7 ws o)
-      (cond (ltb (length ws) 7) (Round.crossed_round (2 ^ 63 + 4) ws l t) (Round.crossed_round (code o) (words_after ws o rs) s'.list s'.table))
-  on_round code vs o rs s' is h =
-      by_words (RoundSpared code (4 ∷ vs)) (ltb (length ws) 7) (sym is, (four vs, refl)) (refl, first_four vs o _ _ (round_spared code vs o rs s' h))
-
-  pub round_admit_refuses : let o = said_by 7 ws (admit_call (state (Round.round_as ws) l t)).answer in
-      let a = Round.admit_crossed ws l t in Crosses Reservoir.coded_exchange round_admit_refusals o a.answer (Round.crossed_round a.answer ws l t) a
-  unfolding Round.admit_crossed
-  round_admit_refuses =
-      let s = state (Round.round_as ws) l t in
-      let a = admit_call s in on_round Reservoir.coded_exchange _ a.answer _ a.state refl (rounds.admit_refuses s)
-
-  pub round_join_refuses : let o = said_by 7 ws (join_call (state (Round.round_as ws) l t)).answer in
-      let a = Round.join_crossed ws l t in Crosses coded_number round_join_refusals o a.answer (Round.crossed_round a.answer ws l t) a
-  unfolding Round.join_crossed
-  round_join_refuses =
-      let s = state (Round.round_as ws) l t in
-      let a = join_call s in on_round coded_number _ a.answer _ a.state refl (rounds.join_refuses s)
-
-  pub round_withdraw_refuses : (x : ℕ) → let o = said_by 7 ws (withdraw_call (state (Round.round_as ws) l t) x).answer in
-      let a = Round.withdraw_crossed ws l t x in Crosses coded_done round_withdraw_refusals o a.answer (Round.crossed_round a.answer ws l t) a
-  unfolding Round.withdraw_crossed
-  round_withdraw_refuses x =
-      let s = state (Round.round_as ws) l t in
-      let a = withdraw_call s x in on_round coded_done _ a.answer _ a.state refl (rounds.withdraw_refuses s x)
+  pub round_fits_refuses : let w = said_by 7 x.words (result (fitting (round_in x))) in
+      Crosses {M = Unit {0}} truth words_refusals w (fits_crossed x) tt tt
+  unfolding fits_crossed
+  round_fits_refuses = fits_refuses round_layout x.words _
 
 -- what is refused leaves the scratch too
 with_scratch : {A M : Type 0} (vs : List ℕ) (o : Answer A) (a : ℕ) (m m' : M) (before now : List ℕ)
-    → (2 ^ 63 ≤ a → now ≡ before) → Crosses coded_done vs o a m m'
-    → Crosses {M = M × List ℕ} coded_done vs o a (m, before) (m', now)
+    → (2 ^ 63 ≤ a → now ≡ before) → Crosses (λ u. 0) vs o a m m'
+    → Crosses {M = M × List ℕ} (λ u. 0) vs o a (m, before) (m', now)
 with_scratch vs (refusal w) a m m' before now k c = (c.0, (c.1.0, (λ i. (c.1.1 i, k (omega (arith, c.0)) i))))
 with_scratch vs (result x) a m m' before now k c = (c.0, tt)
 
-module _ (ws l t ls ts ls' ts' before now : List ℕ) where
-  -- by its promise, as replay
-  pub round_plan_refuses : (a : ℕ) → let o = said_by 7 ws (plan_call (state (Round.round_as ws) l t) ls ts (length before)).answer in
-      Round.crossed_plan a ls' ts' ≡ Round.plan_crossed ws l t ls ts (length before) → Slots.ScratchAfter a before now
-      → Crosses {M = Round.CrossedPlan × List ℕ} coded_done round_plan_refusals o a (Round.crossed_plan a ls ts, before) (Round.crossed_plan a ls' ts', now)
-  unfolding Round.plan_crossed
-  round_plan_refuses a e k =
-      let s = state (Round.round_as ws) l t in
-      let p = plan_call s ls ts (length before) in
-      let enough = first_four _ p.answer _ _
-      (spared_under (shown p.answer) _ p.answer (after_plan p.answer ls ts) p (rounds.plan_spares s ls ts (length before))) in
-      let c = by_words PlanSpared (ltb (length ws) 7) (refl, (four _, refl)) (refl, enough) in
-      with_scratch _ _ a _ _ before now k (subst (PlanSpared (said_by 7 ws p.answer)) (sym e) c)
-    where
-      PlanSpared : Answer (Unit {0}) → Round.CrossedPlan → Type 0
-      PlanSpared o x = Crosses coded_done round_plan_refusals o x.answer (Round.crossed_plan x.answer ls ts) x
+-- by what it promises of its answer and of what it leaves
+by_promise : {A M : Type 0} (vs : List ℕ) (o : Answer A) (m m' : M) (a : ℕ) (x : Crossed M) → crossed a m' ≡ x → Crosses (λ u. 0) vs o x.answer m x.left → Crosses (λ u. 0) vs o a m m'
+by_promise vs o m m' a x e c = subst (λ (y : Crossed _). Crosses (λ u. 0) vs o y.answer m y.left) (sym e) c
 
-      shown : Answer (Unit {0}) → AfterPlan → Round.CrossedPlan
-      shown o q = Round.crossed_plan (coded_done o) q.locations q.terminals
+module _ (x : Lent) (ls ts ls' ts' before now : List ℕ) where
+  -- as replay by its promise
+  pub round_plan_refuses : (a : ℕ) → let o = said_by 7 x.words (plan_call (round_in x) ls ts (length before)).answer in
+      crossed a (plan_lists ls' ts') ≡ plan_crossed x ls ts (length before) → Slots.ScratchAfter a before now
+      → Crosses {M = PlanLists × List ℕ} (λ u. 0) round_plan_refusals o a (plan_lists ls ts, before) (plan_lists ls' ts', now)
+  unfolding plan_crossed
+  round_plan_refuses a e k =
+      let p = plan_call (round_in x) ls ts (length before) in
+      with_scratch _ _ a _ _ before now k
+      (by_promise _ _ _ _ a _ e (read_refuses round_layout x.words (λ u. 0) _ (plan_lists ls ts) p (rounds.plan_spares (round_in x) ls ts (length before))))
 
 module _ (key k n : ℕ) (codes l t ws ls ts l' t' ws' ls' ts' before now : List ℕ) where
   pub round_replay_refuses : (a : ℕ) → let o = (replay_call key k n codes l t ws ls ts (length before)).answer in
-      Round.crossed_replay a l' t' ws' ls' ts' ≡ Round.replay_crossed key k n codes l t ws ls ts (length before)
-      → Round.ReplayScratchAs a (length codes) ws' before now
-      → Crosses {M = Round.CrossedReplay × List ℕ} coded_done called.replay_refusals o a
-      (Round.crossed_replay a l t ws ls ts, before) (Round.crossed_replay a l' t' ws' ls' ts', now)
-  unfolding Round.replay_crossed
+      crossed a (replay_memory l' t' ws' ls' ts') ≡ replay_crossed key k n codes l t ws ls ts (length before)
+      → ReplayScratchAs a (length codes) ws' before now
+      → Crosses {M = ReplayMemory × List ℕ} (λ u. 0) library.replay_refusals o a
+      (replay_memory l t ws ls ts, before) (replay_memory l' t' ws' ls' ts', now)
+  unfolding replay_crossed
   round_replay_refuses a e s =
-      let o = replay_call key k n codes l t ws ls ts (length before) in
-      let c = spared_under (shown o.answer) _ o.answer (after_replay o.answer l t ws ls ts) o (rounds.replay_spares l t ws ls ts key k n codes (length before)) in
-      with_scratch _ _ a _ _ before now s.0 (subst (ReplaySpared o.answer) (sym e) (refl, c))
-    where
-      ReplaySpared : Answer (Unit {0}) → Round.CrossedReplay → Type 0
-      ReplaySpared o x = Crosses coded_done called.replay_refusals o x.answer (Round.crossed_replay x.answer l t ws ls ts) x
-
-      shown : Answer (Unit {0}) → AfterReplay → Round.CrossedReplay
-      shown o x = Round.crossed_replay (coded_done o) x.list x.table x.answers x.locations x.terminals
+      with_scratch _ _ a _ _ before now s.0 (by_promise _ _ _ _ a _ e (refl, rounds.replay_spares l t ws ls ts key k n codes (length before)))

@@ -12,7 +12,7 @@ use Rattle.layers.specs.declared.KeyedLayer.{KeyedLayer}
 use Rattle.layers.specs.Layer.{size, layer}
 use Rattle.layers.specs.KeyedLayers.{keyed_layer, keyed}
 use Rattle.layers.proofs.CallLaws.{keyed_in, keyed_out}
-use Rattle.exports.specs.Coded.{coded, xors, layer_xors}
+use Rattle.exports.specs.Coded.{coded_number, xors, layer_xors}
 
 pub xors_step : (f : ℕ → ℕ) (n : ℕ) → bit_xor (xors f n) (f n) ≡ xors f (n + 1)
 unfolding xors
@@ -20,7 +20,7 @@ xors_step f n = rw (add-one n)
 
 -- the record that was made, and n within its size
 pub made : (j key n : ℕ) (f : KeyedLayer) (y : ℕ) → keyed j key ≡ result f → n ≤ f.size → (j ≤ 14 → f ≡ keyed_layer j key → y ≡ xors (layer j key) n)
-    → y ≡ coded (layer_xors j key n)
+    → y ≡ coded_number (layer_xors key j n)
 unfolding layer_xors
 made j key n f y e s p =
     by_below 14 j
@@ -31,7 +31,7 @@ made j key n f y e s p =
     rw (le-leb j 14 h, le-leb n (size j) d) (p h g))
 
 -- the record that was made, and n above its size
-pub too_many : (j key n : ℕ) (f : KeyedLayer) → keyed j key ≡ result f → f.size < n → 2 ^ 32 + 12 ≡ coded (layer_xors j key n)
+pub too_many : (j key n : ℕ) (f : KeyedLayer) → keyed j key ≡ result f → f.size < n → 2 ^ 63 + 12 ≡ coded_number (layer_xors key j n)
 unfolding layer_xors
 too_many j key n f e s =
     by_below 14 j
@@ -41,7 +41,7 @@ too_many j key n f e s =
     let d : size j < n = omega (arith, s, ap (λ (t : KeyedLayer). t.size) g) in
     rw (le-leb j 14 h, lt-leb n (size j) d) refl)
 
-pub not_made : (j key n c : ℕ) → keyed j key ≡ refusal c → 2 ^ 32 + c ≡ coded (layer_xors j key n)
+pub not_made : (j key n c : ℕ) → keyed j key ≡ refusal c → 2 ^ 63 + c ≡ coded_number (layer_xors key j n)
 unfolding layer_xors
 not_made j key n c e =
     by_below 14 j

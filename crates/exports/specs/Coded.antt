@@ -9,15 +9,36 @@ use Rattle.hashes.specs.Hashes.{feed}
 use Rattle.hashes.specs.Calls.{limited}
 use Rattle.hashes.specs.Walks.{hashes_below, hashes_from}
 
--- an answer as it is, refusal c as 2^32 + c: no number that a call answers is so large
-abbrev pub coded : Answer ℕ → ℕ
-coded (result y) = y
-coded (refusal c) = 2 ^ 32 + c
+-- ---- the one coding: the number of a result, refusal c as 2^63 + c. No result has so large a number.
+
+abbrev pub coded_by : {A : Type 0} → (A → ℕ) → Answer A → ℕ
+coded_by value (result x) = value x
+coded_by value (refusal c) = 2 ^ 63 + c
+
+-- a number as it is
+abbrev pub coded_number : Answer ℕ → ℕ
+coded_number t = coded_by (λ x. x) t
+
+-- none as 2^63
+abbrev pub or_none : Option ℕ → ℕ
+or_none o = get_or o (2 ^ 63)
+
+abbrev pub coded_hash : Answer (Option ℕ) → ℕ
+coded_hash t = coded_by or_none t
+
+-- 0 for a call with nothing to answer but that it was done
+abbrev pub coded_done : {A : Type 0} → Answer A → ℕ
+coded_done t = coded_by (λ x. 0) t
 
 -- 1 or 0
 abbrev pub truth : Bool → ℕ
 truth true = 1
 truth false = 0
+
+abbrev pub coded_truth : Answer Bool → ℕ
+coded_truth t = coded_by truth t
+
+-- ---- a layer
 
 -- f 0 xor f 1 xor .. xor f (n - 1)
 unfoldable pub xors : (ℕ → ℕ) → ℕ → ℕ
@@ -26,24 +47,9 @@ xors f (suc n) = bit_xor (xors f n) (f n)
 
 -- The outputs of a layer at 0..n, xored. 12: "a layer above 14, or a layer's input not below its size".
 unfoldable pub layer_xors : ℕ → ℕ → ℕ → Answer ℕ
-layer_xors j key n = cond (leb j 14 && leb n (size j)) (result (xors (layer j key) n)) (refusal 12)
+layer_xors key j n = cond (leb j 14 && leb n (size j)) (result (xors (layer j key) n)) (refusal 12)
 
 -- ---- hashes
-
--- a hash as it is, none as 2^63, refusal c as 2^63 + c: every hash is below 2^63
-abbrev pub coded_hash : Answer (Option ℕ) → ℕ
-coded_hash (result o) = get_or o (2 ^ 63)
-coded_hash (refusal c) = 2 ^ 63 + c
-
--- a number below 2^63 as it is, refusal c as 2^63 + c
-abbrev pub coded_number : Answer ℕ → ℕ
-coded_number (result y) = y
-coded_number (refusal c) = 2 ^ 63 + c
-
--- 0 for a call with no number to say, refusal c as 2^63 + c
-abbrev pub coded_done : {A : Type 0} → Answer A → ℕ
-coded_done (result x) = 0
-coded_done (refusal c) = 2 ^ 63 + c
 
 -- the stand-in of document 01 fed with all of a list, one after the other
 abbrev pub fed_all : ℕ → List ℕ → ℕ

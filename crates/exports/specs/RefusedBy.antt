@@ -4,14 +4,15 @@
 use Rattle.std.specs.Prelude.{◌≡◌, cond, List, [], ◌∷◌, ℕ, ltb, length}
 use Rattle.answers.specs.Answers.{Answer, refusal}
 use Rattle.answers.specs.Refusing.{Spares}
+use Rattle.exports.specs.Coded.{coded_by}
 use Rattle.orders.specs.RefusedBy as orders
 use Rattle.choosers.specs.RefusedBy as choosers
 use Rattle.rounds.specs.RefusedBy as rounds
 
 -- Demand 1, of a call that said t and answers a number: that is t, coded; where t is a refusal, that is one of its numbers ws, and all that
 -- was lent, which stood as `before` and stands as `now`, is as it was.
-abbrev pub Crosses : {A M : Type 0} → (Answer A → ℕ) → List ℕ → Answer A → ℕ → M → M → Type 0
-Crosses code ws t answer before now = (answer ≡ code t) × Spares ws t before now
+abbrev pub Crosses : {A M : Type 0} → (A → ℕ) → List ℕ → Answer A → ℕ → M → M → Type 0
+Crosses value ws t answer before now = (answer ≡ coded_by value t) × Spares ws t before now
 
 -- what is said on a record of c words: the refusal w where there are fewer, else what the library's call says
 abbrev pub said_else : {A : Type 0} → ℕ → ℕ → List ℕ → Answer A → Answer A

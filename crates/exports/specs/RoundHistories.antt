@@ -2,38 +2,24 @@
 -- Assumes nothing.
 use Rattle.std.specs.Prelude.{◌≡◌, cond, List, [], ◌∷◌, ℕ, ◌+◌, ◌-◌, ◌*◌, ◌^◌, eqb, length, take, get_or}
 use Rattle.answers.specs.Answers.{Answer, refusal, result}
-use Rattle.rounds.specs.Rounds.{State, state}
 use Rattle.rounds.specs.Ledgers.{Call, admit, join, withdraw, Sheet}
-use Rattle.rounds.specs.Plans.{sheets}
+use Rattle.rounds.specs.Plans.{plan_lists, sheets}
 use Rattle.rounds.specs.Demand3.{Enough, PlanOf}
 use Rattle.rounds.specs.Histories.{Opens, AllMade}
-use Rattle.exports.specs.Crossings.{crossed}
-use Rattle.exports.specs.Rounds.{round_as, open_crossed, crossed_round, admit_crossed, join_crossed, withdraw_crossed, crossed_plan, plan_crossed}
-
--- what the program keeps: the record's words, the list and the table
-pub record Lent : Type 0 where
-  pub words : List ℕ
-  pub list : List ℕ
-  pub table : List ℕ
-
-abbrev pub lent : List ℕ → List ℕ → List ℕ → Lent
-lent ws l t = record { words = ws; list = l; table = t }
-
--- the round that stands in it
-abbrev pub round_in : Lent → State
-round_in x = state (round_as x.words) x.list x.table
+use Rattle.exports.specs.Crossings.{crossed, words_list}
+use Rattle.exports.specs.Rounds.{Lent, lent, round_in, open_crossed, admit_crossed, join_crossed, withdraw_crossed, plan_crossed}
 
 -- `perillajamb_round_open` answered 0 and left these words and this list, by its promise
 pub record OpenedIn (key k n : ℕ) (x : Lent) : Type 0 where
   pub words : List ℕ
   pub list : List ℕ
-  pub promise : crossed 0 x.words x.list ≡ open_crossed key k n list words
+  pub promise : crossed 0 (words_list x.words x.list) ≡ open_crossed key k n words list
 
 -- On x a function was called: it answered a, and y stands after it. Each case has the promise of its function as it stands in the code.
 pub data MadeIn (x : Lent) : Call → ℕ → Lent → Type 0 where
-  admit_in : (a : ℕ) (ws l : List ℕ) → crossed_round a ws l x.table ≡ admit_crossed x.words x.list x.table → MadeIn x admit a (lent ws l x.table)
-  join_in : (a : ℕ) (ws t : List ℕ) → crossed_round a ws x.list t ≡ join_crossed x.words x.list x.table → MadeIn x join a (lent ws x.list t)
-  withdraw_in : (slot a : ℕ) (ws t : List ℕ) → crossed_round a ws x.list t ≡ withdraw_crossed x.words x.list x.table slot
+  admit_in : (a : ℕ) (ws l : List ℕ) → crossed a (lent ws l x.table) ≡ admit_crossed x → MadeIn x admit a (lent ws l x.table)
+  join_in : (a : ℕ) (ws t : List ℕ) → crossed a (lent ws x.list t) ≡ join_crossed x → MadeIn x join a (lent ws x.list t)
+  withdraw_in : (slot a : ℕ) (ws t : List ℕ) → crossed a (lent ws x.list t) ≡ withdraw_crossed slot x
       → MadeIn x (withdraw slot) a (lent ws x.list t)
 
 -- a list of calls, each on what the one before left
@@ -65,7 +51,7 @@ pub record PlannedIn (x : Lent) (a : ℕ) (ls' ts' : List ℕ) : Type 0 where
   pub ts : List ℕ
   pub places : ℕ
   pub enough : Enough (round_in x).round.k (length x.table) ls ts places
-  pub promise : crossed_plan a ls' ts' ≡ plan_crossed x.words x.list x.table ls ts places
+  pub promise : crossed a (plan_lists ls' ts') ≡ plan_crossed x ls ts places
 
 -- ---- the statement
 

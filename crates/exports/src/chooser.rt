@@ -2,8 +2,8 @@
 ghost use Rattle.std.specs.Prelude.{◌≡◌, cond, ◌≤◌, length};
 ghost use Rattle.lists.specs.Lists.{written};
 ghost use Rattle.answers.specs.Refusals.{answer_of};
-ghost use Rattle.exports.specs.Crossings.{crossed, crossed_one};
-ghost use Rattle.exports.specs.Chooser.{chooser_words, chooser_as, words_made, new_crossed, new_with_k_crossed, grow_crossed, next_crossed, shrink_crossed, fits_crossed};
+ghost use Rattle.exports.specs.Crossings.{crossed, words_list};
+ghost use Rattle.exports.specs.Chooser.{chooser_words, chooser_as, new_crossed, new_with_k_crossed, grow_crossed, next_crossed, shrink_crossed, fits_crossed};
 
 use crate::records::Record;
 use crate::{parts, records};
@@ -12,6 +12,8 @@ use choosers::choose_k::ConsistentChooseKHasher;
 
 impl Record for ConsistentChooseKHasher {
     type Word = u64;
+
+    const WORDS: usize = 3;
 
     ghost count = { 3 };
 
@@ -36,11 +38,11 @@ impl Record for ConsistentChooseKHasher {
 
 // No sample of 0..n yet.
 pub fn perillajamb_chooser_new(state: u64, n: u64, words: &mut [u64]) -> u64
-    ensures { crossed_one result words.new ≡ new_crossed state n words.old }
+    ensures { crossed result words.new ≡ new_crossed state n words.old }
 {
-    if words.len() < 3 {
+    if words.len() < ConsistentChooseKHasher::WORDS {
         let limit = ConsistentChooseKHasher::N_LIMIT;
-        return parts::refused(parts::short_of(limit, 0, n));
+        return parts::refused(answers::short_refusal(limit, 0, 0, n));
     }
     records::store_made(ConsistentChooseKHasher::new(state, n), words)
 }
@@ -48,16 +50,16 @@ pub fn perillajamb_chooser_new(state: u64, n: u64, words: &mut [u64]) -> u64
 // The k samples of 0..n.
 pub fn perillajamb_chooser_new_with_k(
     state: u64,
-    n: u64,
     k: u64,
-    list: &mut [u64],
+    n: u64,
     words: &mut [u64],
+    list: &mut [u64],
 ) -> u64
-    ensures { crossed result words.new list.new ≡ new_with_k_crossed state n k list.old words.old }
+    ensures { crossed result (words_list words.new list.new) ≡ new_with_k_crossed state k n words.old list.old }
 {
-    if words.len() < 3 {
+    if words.len() < ConsistentChooseKHasher::WORDS {
         let limit = ConsistentChooseKHasher::N_LIMIT;
-        return parts::refused(parts::short_of(limit, k, n));
+        return parts::refused(answers::short_refusal(limit, 0, k, n));
     }
     records::store_made(
         ConsistentChooseKHasher::new_with_k(state, n, k, list),
@@ -67,9 +69,9 @@ pub fn perillajamb_chooser_new_with_k(
 
 // One sample more.
 pub fn perillajamb_chooser_grow_k(words: &mut [u64], list: &mut [u64]) -> u64
-    ensures { crossed result words.new list.new ≡ grow_crossed words.old list.old }
+    ensures { crossed result (words_list words.new list.new) ≡ grow_crossed words.old list.old }
 {
-    if words.len() < 3 {
+    if words.len() < ConsistentChooseKHasher::WORDS {
         return parts::refused(Refusal::ShortMemory);
     }
     let mut c = ConsistentChooseKHasher::loaded(words);
@@ -80,9 +82,9 @@ pub fn perillajamb_chooser_grow_k(words: &mut [u64], list: &mut [u64]) -> u64
 
 // The next number of the choice order.
 pub fn perillajamb_chooser_next(words: &mut [u64], list: &mut [u64]) -> u64
-    ensures { crossed result words.new list.new ≡ next_crossed words.old list.old }
+    ensures { crossed result (words_list words.new list.new) ≡ next_crossed words.old list.old }
 {
-    if words.len() < 3 {
+    if words.len() < ConsistentChooseKHasher::WORDS {
         return parts::refused(Refusal::ShortMemory);
     }
     let mut c = ConsistentChooseKHasher::loaded(words);
@@ -93,9 +95,9 @@ pub fn perillajamb_chooser_next(words: &mut [u64], list: &mut [u64]) -> u64
 
 // n becomes the last sample.
 pub fn perillajamb_chooser_shrink_n(words: &mut [u64], list: &mut [u64]) -> u64
-    ensures { crossed result words.new list.new ≡ shrink_crossed words.old list.old }
+    ensures { crossed result (words_list words.new list.new) ≡ shrink_crossed words.old list.old }
 {
-    if words.len() < 3 {
+    if words.len() < ConsistentChooseKHasher::WORDS {
         return parts::refused(Refusal::ShortMemory);
     }
     let mut c = ConsistentChooseKHasher::loaded(words);
@@ -108,7 +110,7 @@ pub fn perillajamb_chooser_shrink_n(words: &mut [u64], list: &mut [u64]) -> u64
 pub fn perillajamb_chooser_fits(words: &[u64], list: &[u64]) -> u64
     ensures { result ≡ fits_crossed words.now list.now }
 {
-    if words.len() < 3 {
+    if words.len() < ConsistentChooseKHasher::WORDS {
         return parts::refused(Refusal::ShortMemory);
     }
     parts::yes(ConsistentChooseKHasher::loaded(words).fits(list))

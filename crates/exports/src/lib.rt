@@ -17,9 +17,8 @@ ghost use Rattle.layers.specs.Layer.{layer};
 ghost use Rattle.layers.specs.KeyedLayers.{keyed_layer};
 ghost use Rattle.hashes.specs.Hashes.{feed};
 ghost use Rattle.hashes.specs.Calls.{prev_call, next_call};
-ghost use Rattle.answers.specs.Refusals.{answer_of};
 ghost use Rattle.hashes.specs.Walks.{fall, rise};
-ghost use Rattle.exports.specs.Coded.{coded, xors, layer_xors, coded_hash, coded_number, falling_digest, rising_digest};
+ghost use Rattle.exports.specs.Coded.{xors, layer_xors, coded_hash, coded_number, falling_digest, rising_digest};
 
 use answers::Refusal;
 use hashes::{ConsistentHashIterator, ConsistentHashRevIterator, ConsistentHasher};
@@ -43,20 +42,10 @@ pub fn perillajamb_splitmix64(v: u64) -> u64
     words::splitmix64(v)
 }
 
-pub fn perillajamb_layer_apply(layer: u32, key: u64, x: u32) -> u64
-    ensures { result ≡ coded (layer_apply layer key x) }
+pub fn perillajamb_layer_apply(key: u64, layer: u32, x: u32) -> u64
+    ensures { result ≡ coded_number (layer_apply layer key x) }
 {
-    coded_output(layers::layer_apply(layer, key, x))
-}
-
-// An output as it is, refusal c as 2^32 + c.
-fn coded_output(said: Result<u32, Refusal>) -> u64
-    ensures { result ≡ coded (answer_of said) }
-{
-    match said {
-        Ok(y) => u64::from(y),
-        Err(why) => 0x1_0000_0000 + u64::from(why.number()),
-    }
+    parts::number(layers::layer_apply(layer, key, x))
 }
 
 // The xor of a layer's outputs at 0..n.
@@ -72,13 +61,13 @@ fn xor_outputs(f: KeyedLayer, n: u32) -> u64
 
 // What one layer applied in a loop over its inputs costs: their outputs, xored. Refusal 12 where there is no such layer or n is above
 // its size.
-pub fn perillajamb_layer_xors(layer: u32, key: u64, n: u32) -> u64
-    ensures { result ≡ coded (layer_xors layer key n) }
+pub fn perillajamb_layer_xors(key: u64, layer: u32, n: u32) -> u64
+    ensures { result ≡ coded_number (layer_xors key layer n) }
 {
     match KeyedLayer::new(layer, key) {
         Ok(f) if n <= f.size => xor_outputs(f, n),
-        Ok(_) => coded_output(Err(Refusal::Misfit)),
-        Err(why) => coded_output(Err(why)),
+        Ok(_) => parts::refused(Refusal::Misfit),
+        Err(why) => parts::refused(why),
     }
 }
 

@@ -3,10 +3,8 @@
 ghost use Rattle.std.specs.Prelude.{◌≡◌, ◌+◌, ◌*◌, ◌/◌, ◌%◌, ◌^◌, ◌<◌, OnOk};
 ghost use Rattle.answers.specs.Refusals.{number, answer_of, answer_of_option};
 ghost use Rattle.orders.specs.ReservoirCalls.{answer_of_exchange};
-ghost use Rattle.exports.specs.Coded.{truth, coded_done, coded_number, coded_hash};
-ghost use Rattle.exports.specs.Crossings.{short_refusal};
+ghost use Rattle.exports.specs.Coded.{truth, coded_done, coded_number, coded_hash, coded_truth};
 ghost use Rattle.exports.specs.Reservoirs.{coded_exchange};
-ghost use Rattle.exports.specs.Slots.{coded_truth};
 
 use answers::Refusal;
 use orders::consistent_reservoir::Exchange;
@@ -88,19 +86,6 @@ pub(crate) fn exchange(said: Result<Option<Exchange>, Refusal>) -> u64
         Ok(None) => NONE,
         Err(why) => refused(why),
     }
-}
-
-// The refusal of a call that makes a record of k of n, for which the words are too few.
-pub(crate) fn short_of(limit: u64, k: u64, n: u64) -> Refusal
-    ensures { number result ≡ short_refusal limit 0 k n }
-{
-    if limit < n {
-        return Refusal::NAboveLimit;
-    }
-    if n < k {
-        return Refusal::KAboveN;
-    }
-    Refusal::ShortMemory
 }
 
 // Two words as one number.

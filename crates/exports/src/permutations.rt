@@ -5,7 +5,7 @@ ghost use Rattle.lists.specs.Lists.{written};
 ghost use Rattle.orders.specs.Orders.{P};
 ghost use Rattle.answers.specs.Refusals.{answer_of_option};
 ghost use Rattle.exports.specs.Coded.{coded_number, fed_all};
-ghost use Rattle.exports.specs.Crossings.{crossed_one};
+ghost use Rattle.exports.specs.Crossings.{crossed};
 ghost use Rattle.exports.specs.InnerDigests.{fed_with};
 ghost use Rattle.exports.specs.Orders.{order_words, order_as, new_order_crossed, next_order_crossed, order_digest};
 
@@ -17,6 +17,8 @@ use orders::order_walk::OrderWalk;
 
 impl Record for ConsistentPermutation {
     type Word = u32;
+
+    const WORDS: usize = 18;
 
     ghost count = { 18 };
 
@@ -44,12 +46,12 @@ impl Record for ConsistentPermutation {
 }
 
 // A new order of 0..n.
-pub fn perillajamb_order_new(n: u32, key: u64, ws: &mut [u32]) -> u64
-    ensures { crossed_one result ws.new ≡ new_order_crossed n key ws.old }
+pub fn perillajamb_order_new(key: u64, n: u32, ws: &mut [u32]) -> u64
+    ensures { crossed result ws.new ≡ new_order_crossed key n ws.old }
 {
-    if ws.len() < 18 {
+    if ws.len() < ConsistentPermutation::WORDS {
         let limit = u64::from(ConsistentPermutation::N_LIMIT);
-        return parts::refused(parts::short_of(limit, 0, u64::from(n)));
+        return parts::refused(answers::short_refusal(limit, 0, 0, u64::from(n)));
     }
     records::store_made(ConsistentPermutation::new(n, key), ws)
 }
@@ -66,9 +68,9 @@ fn fed_with(d: u64, said: Result<Option<u32>, Refusal>) -> u64
 
 // Its next number.
 pub fn perillajamb_order_next(ws: &mut [u32]) -> u64
-    ensures { crossed_one result ws.new ≡ next_order_crossed ws.old }
+    ensures { crossed result ws.new ≡ next_order_crossed ws.old }
 {
-    if ws.len() < 18 {
+    if ws.len() < ConsistentPermutation::WORDS {
         return parts::refused(Refusal::ShortMemory);
     }
     let mut order = ConsistentPermutation::loaded(ws);
@@ -91,8 +93,8 @@ fn numbers_fed(n: u32, key: u64, count: u32) -> u64
 }
 
 // The first `count` numbers of the order of 0..n, as one number.
-pub fn perillajamb_order_digest(n: u32, key: u64, count: u32) -> u64
-    ensures { result ≡ coded_number (order_digest n key count) }
+pub fn perillajamb_order_digest(key: u64, n: u32, count: u32) -> u64
+    ensures { result ≡ coded_number (order_digest key n count) }
 {
     if ConsistentPermutation::N_LIMIT < n {
         return parts::refused(Refusal::NAboveLimit);

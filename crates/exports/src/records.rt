@@ -13,6 +13,8 @@ pub(crate) trait Record: Copy {
     type Word;
 
     // how many words it has
+    const WORDS: usize;
+
     ghost count: { ℕ };
 
     // the words with the record in their first places

@@ -2,7 +2,7 @@
 // the used length.
 ghost use Rattle.std.specs.Prelude.{◌≡◌, cond, ◌≤◌, length};
 ghost use Rattle.lists.specs.Lists.{written};
-ghost use Rattle.exports.specs.Crossings.{crossed, crossed_one};
+ghost use Rattle.exports.specs.Crossings.{crossed, words_list};
 ghost use Rattle.exports.specs.Reservoirs.{words_of, record_of, new_crossed, next_crossed, grow_crossed, sample_crossed, fits_crossed};
 
 use crate::records::Record;
@@ -12,6 +12,8 @@ use orders::consistent_reservoir::ConsistentReservoir;
 
 impl Record for ConsistentReservoir {
     type Word = u32;
+
+    const WORDS: usize = 6;
 
     ghost count = { 6 };
 
@@ -42,15 +44,15 @@ impl Record for ConsistentReservoir {
 
 // Open with k of n.
 pub fn perillajamb_reservoir_new(
+    key: u64,
     k: u32,
     n: u32,
-    key: u64,
-    list: &mut [u32],
     words: &mut [u32],
+    list: &mut [u32],
 ) -> u64
-    ensures { crossed result words.new list.new ≡ new_crossed k n key list.old words.old }
+    ensures { crossed result (words_list words.new list.new) ≡ new_crossed key k n words.old list.old }
 {
-    if words.len() < 6 {
+    if words.len() < ConsistentReservoir::WORDS {
         return parts::refused(ConsistentReservoir::short_refusal(k, n));
     }
     records::store_made(ConsistentReservoir::new(k, n, key, list), words)
@@ -58,9 +60,9 @@ pub fn perillajamb_reservoir_new(
 
 // Admit.
 pub fn perillajamb_reservoir_next(words: &mut [u32], list: &mut [u32]) -> u64
-    ensures { crossed result words.new list.new ≡ next_crossed words.old list.old }
+    ensures { crossed result (words_list words.new list.new) ≡ next_crossed words.old list.old }
 {
-    if words.len() < 6 {
+    if words.len() < ConsistentReservoir::WORDS {
         return parts::refused(Refusal::ShortMemory);
     }
     let mut r = ConsistentReservoir::loaded(words);
@@ -71,9 +73,9 @@ pub fn perillajamb_reservoir_next(words: &mut [u32], list: &mut [u32]) -> u64
 
 // The step to the next layer.
 pub fn perillajamb_reservoir_grow_layer(words: &mut [u32], list: &mut [u32]) -> u64
-    ensures { crossed result words.new list.new ≡ grow_crossed words.old list.old }
+    ensures { crossed result (words_list words.new list.new) ≡ grow_crossed words.old list.old }
 {
-    if words.len() < 6 {
+    if words.len() < ConsistentReservoir::WORDS {
         return parts::refused(Refusal::ShortMemory);
     }
     let mut r = ConsistentReservoir::loaded(words);
@@ -84,9 +86,9 @@ pub fn perillajamb_reservoir_grow_layer(words: &mut [u32], list: &mut [u32]) -> 
 
 // The sample, in the first k places of `out`.
 pub fn perillajamb_reservoir_sample(words: &[u32], list: &[u32], out: &mut [u32]) -> u64
-    ensures { crossed_one result out.new ≡ sample_crossed words.now list.now out.old }
+    ensures { crossed result out.new ≡ sample_crossed words.now list.now out.old }
 {
-    if words.len() < 6 {
+    if words.len() < ConsistentReservoir::WORDS {
         return parts::refused(Refusal::ShortMemory);
     }
     parts::done(ConsistentReservoir::loaded(words).reservoir(list, out))
@@ -96,7 +98,7 @@ pub fn perillajamb_reservoir_sample(words: &[u32], list: &[u32], out: &mut [u32]
 pub fn perillajamb_reservoir_fits(words: &[u32], list: &[u32]) -> u64
     ensures { result ≡ fits_crossed words.now list.now }
 {
-    if words.len() < 6 {
+    if words.len() < ConsistentReservoir::WORDS {
         return parts::refused(Refusal::ShortMemory);
     }
     parts::yes(ConsistentReservoir::loaded(words).fits(list))

@@ -2,9 +2,11 @@
 // length, the slot count.
 ghost use Rattle.std.specs.Prelude.{◌≡◌, cond, ◌≤◌, length};
 ghost use Rattle.lists.specs.Lists.{written};
-ghost use Rattle.exports.specs.Crossings.{crossed};
+ghost use Rattle.rounds.specs.Plans.{plan_lists};
+ghost use Rattle.rounds.specs.Replays.{replay_memory};
+ghost use Rattle.exports.specs.Crossings.{crossed, words_list};
 ghost use Rattle.exports.specs.Slots.{ScratchAfter};
-ghost use Rattle.exports.specs.Rounds.{round_words, round_as, open_crossed, crossed_round, admit_crossed, join_crossed, withdraw_crossed, crossed_plan, plan_crossed, fits_crossed, crossed_replay, replay_crossed, ReplayScratchAs, ReplayedAs};
+ghost use Rattle.exports.specs.Rounds.{round_words, round_as, lent, open_crossed, admit_crossed, join_crossed, withdraw_crossed, plan_crossed, fits_crossed, replay_crossed, ReplayScratchAs, ReplayedAs};
 
 use crate::records::Record;
 use crate::{parts, records};
@@ -15,6 +17,8 @@ use rounds::{replays, round};
 
 impl Record for Round {
     type Word = u32;
+
+    const WORDS: usize = 7;
 
     ghost count = { 7 };
 
@@ -46,10 +50,10 @@ impl Record for Round {
 }
 
 // Open with k of n.
-pub fn perillajamb_round_open(key: u64, k: u32, n: u32, list: &mut [u32], words: &mut [u32]) -> u64
-    ensures { crossed result words.new list.new ≡ open_crossed key k n list.old words.old }
+pub fn perillajamb_round_open(key: u64, k: u32, n: u32, words: &mut [u32], list: &mut [u32]) -> u64
+    ensures { crossed result (words_list words.new list.new) ≡ open_crossed key k n words.old list.old }
 {
-    if words.len() < 7 {
+    if words.len() < Round::WORDS {
         return parts::refused(ConsistentReservoir::short_refusal(k, n));
     }
     records::store_made(round::open(key, k, n, list), words)
@@ -57,9 +61,9 @@ pub fn perillajamb_round_open(key: u64, k: u32, n: u32, list: &mut [u32], words:
 
 // Admit.
 pub fn perillajamb_round_admit(words: &mut [u32], list: &mut [u32], table: &[u8]) -> u64
-    ensures { crossed_round result words.new list.new table.now ≡ admit_crossed words.old list.old table.now }
+    ensures { crossed result (lent words.new list.new table.now) ≡ admit_crossed (lent words.old list.old table.now) }
 {
-    if words.len() < 7 {
+    if words.len() < Round::WORDS {
         return parts::refused(Refusal::ShortMemory);
     }
     let mut r = Round::loaded(words);
@@ -70,9 +74,9 @@ pub fn perillajamb_round_admit(words: &mut [u32], list: &mut [u32], table: &[u8]
 
 // Join: the terminal's slot.
 pub fn perillajamb_round_join(words: &mut [u32], list: &[u32], table: &mut [u8]) -> u64
-    ensures { crossed_round result words.new list.now table.new ≡ join_crossed words.old list.now table.old }
+    ensures { crossed result (lent words.new list.now table.new) ≡ join_crossed (lent words.old list.now table.old) }
 {
-    if words.len() < 7 {
+    if words.len() < Round::WORDS {
         return parts::refused(Refusal::ShortMemory);
     }
     let mut r = Round::loaded(words);
@@ -83,14 +87,14 @@ pub fn perillajamb_round_join(words: &mut [u32], list: &[u32], table: &mut [u8])
 
 // Withdraw.
 pub fn perillajamb_round_withdraw(
+    slot: u32,
     words: &mut [u32],
     list: &[u32],
     table: &mut [u8],
-    slot: u32,
 ) -> u64
-    ensures { crossed_round result words.new list.now table.new ≡ withdraw_crossed words.old list.now table.old slot }
+    ensures { crossed result (lent words.new list.now table.new) ≡ withdraw_crossed slot (lent words.old list.now table.old) }
 {
-    if words.len() < 7 {
+    if words.len() < Round::WORDS {
         return parts::refused(Refusal::ShortMemory);
     }
     let mut r = Round::loaded(words);
@@ -108,10 +112,10 @@ pub fn perillajamb_round_plan(
     terminals: &mut [u32],
     scratch: &mut [u64],
 ) -> u64
-    ensures answer { crossed_plan result locations.new terminals.new ≡ plan_crossed words.now list.now table.now locations.old terminals.old (length scratch.old) }
+    ensures answer { crossed result (plan_lists locations.new terminals.new) ≡ plan_crossed (lent words.now list.now table.now) locations.old terminals.old (length scratch.old) }
     ensures scratch_after { ScratchAfter result scratch.old scratch.new }
 {
-    if words.len() < 7 {
+    if words.len() < Round::WORDS {
         return parts::refused(Refusal::ShortMemory);
     }
     let r = Round::loaded(words);
@@ -120,9 +124,9 @@ pub fn perillajamb_round_plan(
 
 // Whether the record fits its list and its table: 1 or 0.
 pub fn perillajamb_round_fits(words: &[u32], list: &[u32], table: &[u8]) -> u64
-    ensures { result ≡ fits_crossed words.now list.now table.now }
+    ensures { result ≡ fits_crossed (lent words.now list.now table.now) }
 {
-    if words.len() < 7 {
+    if words.len() < Round::WORDS {
         return parts::refused(Refusal::ShortMemory);
     }
     parts::yes(round::fits(Round::loaded(words), list, table))
@@ -141,7 +145,7 @@ pub fn perillajamb_round_replay(
     terminals: &mut [u32],
     scratch: &mut [u64],
 ) -> u64
-    ensures answer { crossed_replay result list.new table.new answers.new locations.new terminals.new ≡ replay_crossed key k n calls.now list.old table.old answers.old locations.old terminals.old (length scratch.old) }
+    ensures answer { crossed result (replay_memory list.new table.new answers.new locations.new terminals.new) ≡ replay_crossed key k n calls.now list.old table.old answers.old locations.old terminals.old (length scratch.old) }
     ensures replayed_as { ReplayedAs result key k n calls.now (length table.old) (length scratch.old) answers.new locations.new terminals.new }
     ensures replay_scratch_as { ReplayScratchAs result (length calls.now) answers.new scratch.old scratch.new }
 {

@@ -3,9 +3,9 @@ ghost use Rattle.std.specs.Prelude.{◌≡◌, length};
 ghost use Rattle.answers.specs.Answers as Answers;
 ghost use Rattle.choosers.specs.Slots.{state_of};
 ghost use Rattle.choosers.specs.SlotCalls.{map_of, fitting, len_call, is_empty_call, is_active_call, look_up, get_call, ScratchFree};
-ghost use Rattle.exports.specs.Coded.{truth, coded_number, coded_hash};
-ghost use Rattle.exports.specs.Crossings.{crossed_one};
-ghost use Rattle.exports.specs.Slots.{coded_truth, add_crossed, remove_crossed, ScratchAfter};
+ghost use Rattle.exports.specs.Coded.{truth, coded_truth, coded_number, coded_hash};
+ghost use Rattle.exports.specs.Crossings.{crossed};
+ghost use Rattle.exports.specs.Slots.{add_crossed, remove_crossed, ScratchAfter};
 
 use crate::parts;
 use choosers::node_map;
@@ -13,7 +13,7 @@ use choosers::node_map::ConsistentNodeMap;
 
 // The lowest deleted slot, else a new one.
 pub fn perillajamb_slots_add(total: u32, table: &mut [u8]) -> u64
-    ensures { crossed_one result table.new ≡ add_crossed total table.old }
+    ensures { crossed result table.new ≡ add_crossed total table.old }
 {
     let mut m = ConsistentNodeMap { total };
     match m.add(table) {
@@ -23,8 +23,8 @@ pub fn perillajamb_slots_add(total: u32, table: &mut [u8]) -> u64
 }
 
 // Takes a slot out.
-pub fn perillajamb_slots_remove(total: u32, table: &mut [u8], slot: u32) -> u64
-    ensures { crossed_one result table.new ≡ remove_crossed total table.old slot }
+pub fn perillajamb_slots_remove(slot: u32, total: u32, table: &mut [u8]) -> u64
+    ensures { crossed result table.new ≡ remove_crossed slot total table.old }
 {
     let mut m = ConsistentNodeMap { total };
     match m.remove(table, slot) {
@@ -48,7 +48,7 @@ pub fn perillajamb_slots_is_empty(total: u32, table: &[u8]) -> u64
 }
 
 // Whether a slot is active: 1 or 0.
-pub fn perillajamb_slots_is_active(total: u32, table: &[u8], slot: u32) -> u64
+pub fn perillajamb_slots_is_active(slot: u32, total: u32, table: &[u8]) -> u64
     ensures { result ≡ coded_truth (is_active_call (map_of total) table.now slot) }
 {
     parts::yes_or_no(ConsistentNodeMap { total }.is_active(table, slot))
@@ -62,7 +62,7 @@ pub fn perillajamb_slots_fits(total: u32, table: &[u8]) -> u64
 }
 
 // The first active slot of the choice order of the count.
-pub fn perillajamb_slots_get(total: u32, table: &[u8], state: u64, scratch: &mut [u64]) -> u64
+pub fn perillajamb_slots_get(state: u64, total: u32, table: &[u8], scratch: &mut [u64]) -> u64
     ensures answer { result ≡ coded_number (get_call (map_of total) table.now state (length scratch.old)) }
     ensures scratch_after { ScratchAfter result scratch.old scratch.new }
 {
@@ -70,7 +70,7 @@ pub fn perillajamb_slots_get(total: u32, table: &[u8], state: u64, scratch: &mut
 }
 
 // The same without its tests, for many lookups after one test.
-pub fn perillajamb_first_active(total: u32, table: &[u8], state: u64, scratch: &mut [u64]) -> u64
+pub fn perillajamb_first_active(state: u64, total: u32, table: &[u8], scratch: &mut [u64]) -> u64
     ensures answer { result ≡ coded_hash (Answers.result (look_up total table.now state (length scratch.old))) }
     ensures scratch { ScratchFree scratch.old scratch.new }
 {

@@ -1,8 +1,8 @@
 -- `exports::perillajamb_layer_apply` meets its contract.
 -- Assumes nothing.
 use Rattle.std.proofs.Common.{ap, ◌∙◌}
-use Rattle.exports.specs.Coded.{coded}
+use Rattle.exports.specs.Coded.{coded_number}
 use Rattle.exports.proofs.perillajamb_layer_apply.Goals as goal
 
 pub returns : goal.returns
-returns c = c.coded_output.ensures ∙ ap coded c.layer_apply.ensures
+returns c = c.number.ensures.value ∙ ap coded_number c.layer_apply.ensures

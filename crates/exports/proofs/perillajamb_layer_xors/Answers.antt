@@ -11,7 +11,7 @@ returns-in-Ok c =
 
 pub returns-in-Ok-2 : goal.returns-in-Ok-2
 returns-in-Ok-2 c =
-    c.coded_output.ensures ∙ too_many _ _ _ _ (sym c.new.ensures ∙ ap answer_of c.in-Ok.is) (omega arith)
+    c.refused.ensures ∙ too_many _ _ _ _ (sym c.new.ensures ∙ ap answer_of c.in-Ok.is) (omega arith)
 
 pub returns-in-Err : goal.returns-in-Err
-returns-in-Err c = c.coded_output-in-Err.ensures ∙ not_made _ _ _ _ (sym c.new.ensures ∙ ap answer_of c.in-Err.is)
+returns-in-Err c = c.refused-in-Err.ensures ∙ not_made _ _ _ _ (sym c.new.ensures ∙ ap answer_of c.in-Err.is)

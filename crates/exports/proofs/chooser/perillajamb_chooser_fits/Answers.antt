@@ -1,15 +1,16 @@
 -- `exports::chooser::perillajamb_chooser_fits` meets its contract.
 -- Assumes nothing.
-use borrow.Author.Tests.{lt-ltb}
-use borrow.Author.Rules.{rules}
-use Rattle.exports.specs.Chooser.{fits_crossed}
-use Rattle.exports.proofs.ChooserCrossLaws.{fits_crosses}
+use Rattle.std.proofs.Common.{◌∙◌, ap, rules}
+use Rattle.exports.specs.Coded.{truth}
+use Rattle.exports.specs.Chooser.{chooser_layout, fits_crossed}
+use Rattle.exports.proofs.CrossLaws.{fits_few, fits_is}
 use Rattle.exports.proofs.chooser.perillajamb_chooser_fits.Goals as goal
 
-pub returns-then-words-lt3 : goal.returns-then-words-lt3
+pub returns-then-words-lt-WORDS : goal.returns-then-words-lt-WORDS
 unfolding fits_crossed
-returns-then-words-lt3 c = rw (c.refused.ensures, lt-ltb _ 3 c.if-words-lt3.true)
+returns-then-words-lt-WORDS c = fits_few chooser_layout c.args.words.now c.if-words-lt-WORDS.true _ _ c.refused.ensures
 
 pub returns : goal.returns
+unfolding fits_crossed
 returns c =
-    fits_crosses c.args.words.now _ (search rules) _ c.fits.result _ c.loaded.ensures c.fits.ensures c.yes.ensures
+    fits_is chooser_layout c.args.words.now (search rules) _ _ (c.yes.ensures ∙ ap truth (rw c.loaded.ensures at c.fits.ensures))

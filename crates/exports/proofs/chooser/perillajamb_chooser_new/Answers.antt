@@ -1,18 +1,23 @@
 -- `exports::chooser::perillajamb_chooser_new` meets its contract.
 -- Assumes nothing.
-use mathlib.Core.Path.{◌∙◌}
-use borrow.Author.Tests.{lt-ltb}
-use borrow.Author.Rules.{rules}
+use Prim.Native.Nat.{◌^◌}
+use Rattle.std.proofs.Common.{rules}
+use Rattle.answers.specs.Answers.{after}
 use Rattle.answers.specs.Refusals.{answer_of}
-use Rattle.exports.specs.Chooser.{new_crossed}
-use Rattle.exports.proofs.ChooserCrossLaws.{made_words, new_crosses}
-use Rattle.exports.proofs.KeptLaws.{both}
+use Rattle.answers.specs.Making.{short_refusal}
+use Rattle.exports.specs.Chooser.{chooser_layout, new_crossed}
+use Rattle.exports.proofs.CrossLaws.{too_few, made_is}
 use Rattle.exports.proofs.chooser.perillajamb_chooser_new.Goals as goal
 
-pub returns-then-words-lt3 : goal.returns-then-words-lt3
+pub returns-then-words-lt-WORDS : goal.returns-then-words-lt-WORDS
 unfolding new_crossed
-returns-then-words-lt3 c = rw (c.refused.ensures, c.short_of.ensures, lt-ltb _ 3 c.if-words-lt3.true)
+returns-then-words-lt-WORDS c =
+    let a = c.args in
+    too_few chooser_layout a.words.now c.if-words-lt-WORDS.true _ (short_refusal (2 ^ 62) 0 0 a.n) _ _ (rw c.short_refusal.ensures at c.refused.ensures)
 
 pub returns : goal.returns
+unfolding new_crossed
 returns c =
-    new_crosses _ (search rules) _ _ _ _ c.new.result c.new.ensures (both c.store_made.ensures.answer (c.store_made.ensures.made ∙ made_words c.args.words.now (answer_of c.new.result)))
+    let a = c.args in
+    let made = c.store_made.ensures in
+    rw (← c.new.ensures) (made_is chooser_layout a.words.now (search rules) {N = Unit {0}} (short_refusal (2 ^ 62) 0 0 a.n) (λ v u. v) tt (after (answer_of c.new.result) tt) _ _ made.answer made.made)

@@ -1,13 +1,16 @@
 -- `exports::reservoirs::perillajamb_reservoir_fits` meets its contract.
 -- Assumes nothing.
-use Rattle.std.proofs.Common.{lt-ltb, rules}
-use Rattle.exports.specs.Reservoirs.{fits_crossed}
-use Rattle.exports.proofs.CrossLaws.{fits_coded}
+use Rattle.std.proofs.Common.{◌∙◌, ap, rules}
+use Rattle.exports.specs.Coded.{truth}
+use Rattle.exports.specs.Reservoirs.{reservoir_layout, fits_crossed}
+use Rattle.exports.proofs.CrossLaws.{fits_few, fits_is}
 use Rattle.exports.proofs.reservoirs.perillajamb_reservoir_fits.Goals as goal
 
-pub returns-then-words-lt6 : goal.returns-then-words-lt6
+pub returns-then-words-lt-WORDS : goal.returns-then-words-lt-WORDS
 unfolding fits_crossed
-returns-then-words-lt6 c = rw (c.refused.ensures, lt-ltb _ 6 c.if-words-lt6.true)
+returns-then-words-lt-WORDS c = fits_few reservoir_layout c.args.words.now c.if-words-lt-WORDS.true _ _ c.refused.ensures
 
 pub returns : goal.returns
-returns c = fits_coded c.args.words.now _ _ c.fits.result _ c.loaded.ensures c.fits.ensures c.yes.ensures (search rules)
+unfolding fits_crossed
+returns c =
+    fits_is reservoir_layout c.args.words.now (search rules) _ _ (c.yes.ensures ∙ ap truth (rw c.loaded.ensures at c.fits.ensures))

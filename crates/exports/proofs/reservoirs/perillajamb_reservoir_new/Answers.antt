@@ -1,11 +1,24 @@
 -- `exports::reservoirs::perillajamb_reservoir_new` meets its contract.
 -- Assumes nothing.
+use Prim.Native.Nat.{◌^◌}
 use Rattle.std.proofs.Common.{rules}
-use Rattle.exports.proofs.CrossLaws.{new_short, new_crosses}
+use Rattle.answers.specs.Answers.{after}
+use Rattle.answers.specs.Refusals.{answer_of}
+use Rattle.answers.specs.Making.{short_refusal}
+use Rattle.exports.specs.Crossings.{words_list}
+use Rattle.exports.specs.Reservoirs.{reservoir_layout, new_crossed}
+use Rattle.exports.proofs.CrossLaws.{too_few, made_is}
 use Rattle.exports.proofs.reservoirs.perillajamb_reservoir_new.Goals as goal
 
-pub returns-then-words-lt6 : goal.returns-then-words-lt6
-returns-then-words-lt6 c = new_short _ _ _ _ _ _ _ c.refused.ensures c.short_refusal.ensures c.if-words-lt6.true
+pub returns-then-words-lt-WORDS : goal.returns-then-words-lt-WORDS
+unfolding new_crossed
+returns-then-words-lt-WORDS c =
+    let a = c.args in
+    too_few reservoir_layout a.words.now c.if-words-lt-WORDS.true _ (short_refusal (2 ^ 30) 1 a.k a.n) _ _ (rw c.short_refusal.ensures at c.refused.ensures)
 
 pub returns : goal.returns
-returns c = new_crosses _ _ _ _ _ _ _ c.new.result _ c.new.ensures (search rules) c.store_made.ensures.answer c.store_made.ensures.made
+unfolding new_crossed
+returns c =
+    let a = c.args in
+    let made = c.store_made.ensures in
+    rw (← c.new.ensures) (made_is reservoir_layout a.words.now (search rules) (short_refusal (2 ^ 30) 1 a.k a.n) words_list a.list.now (after (answer_of c.new.result) _) _ _ made.answer made.made)

@@ -1,15 +1,16 @@
 -- `exports::round::perillajamb_round_fits` meets its contract.
 -- Assumes nothing.
-use borrow.Author.Tests.{lt-ltb}
-use borrow.Author.Rules.{rules}
-use Rattle.exports.specs.Rounds.{fits_crossed}
-use Rattle.exports.proofs.RoundCrossLaws.{fits_crosses}
+use Rattle.std.proofs.Common.{◌∙◌, ap, rules}
+use Rattle.exports.specs.Coded.{truth}
+use Rattle.exports.specs.Rounds.{round_layout, fits_crossed}
+use Rattle.exports.proofs.CrossLaws.{fits_few, fits_is}
 use Rattle.exports.proofs.round.perillajamb_round_fits.Goals as goal
 
-pub returns-then-words-lt7 : goal.returns-then-words-lt7
+pub returns-then-words-lt-WORDS : goal.returns-then-words-lt-WORDS
 unfolding fits_crossed
-returns-then-words-lt7 c = rw (c.refused.ensures, lt-ltb _ 7 c.if-words-lt7.true)
+returns-then-words-lt-WORDS c = fits_few round_layout c.args.words.now c.if-words-lt-WORDS.true _ _ c.refused.ensures
 
 pub returns : goal.returns
+unfolding fits_crossed
 returns c =
-    fits_crosses _ (search rules) _ _ _ _ c.fits.result c.loaded.ensures c.fits.ensures c.yes.ensures
+    fits_is round_layout c.args.words.now (search rules) _ _ (c.yes.ensures ∙ ap truth (rw c.loaded.ensures at c.fits.ensures))

@@ -1,17 +1,24 @@
 -- `exports::round::perillajamb_round_open` meets its contract.
 -- Assumes nothing.
-use Rattle.std.proofs.Common.{◌∙◌, lt-ltb, rules}
+use Prim.Native.Nat.{◌^◌}
+use Rattle.std.proofs.Common.{rules}
+use Rattle.answers.specs.Answers.{after}
 use Rattle.answers.specs.Refusals.{answer_of}
-use Rattle.exports.specs.Rounds.{open_crossed}
-use Rattle.exports.proofs.RoundCrossLaws.{open_crosses, opened_words}
-use Rattle.exports.proofs.KeptLaws.{both}
+use Rattle.answers.specs.Making.{short_refusal}
+use Rattle.exports.specs.Crossings.{words_list}
+use Rattle.exports.specs.Rounds.{round_layout, open_crossed}
+use Rattle.exports.proofs.CrossLaws.{too_few, made_is}
 use Rattle.exports.proofs.round.perillajamb_round_open.Goals as goal
 
-pub returns-then-words-lt7 : goal.returns-then-words-lt7
+pub returns-then-words-lt-WORDS : goal.returns-then-words-lt-WORDS
 unfolding open_crossed
-returns-then-words-lt7 c = rw (c.refused.ensures, c.short_refusal.ensures, lt-ltb _ 7 c.if-words-lt7.true)
+returns-then-words-lt-WORDS c =
+    let a = c.args in
+    too_few round_layout a.words.now c.if-words-lt-WORDS.true _ (short_refusal (2 ^ 30) 1 a.k a.n) _ _ (rw c.short_refusal.ensures at c.refused.ensures)
 
 pub returns : goal.returns
+unfolding open_crossed
 returns c =
+    let a = c.args in
     let made = c.store_made.ensures in
-    open_crosses _ (search rules) _ _ _ _ _ _ _ c.«open».result c.«open».ensures (both made.answer (made.made ∙ opened_words c.args.words.now (answer_of c.«open».result)))
+    rw (← c.«open».ensures) (made_is round_layout a.words.now (search rules) (short_refusal (2 ^ 30) 1 a.k a.n) words_list a.list.now (after (answer_of c.«open».result) _) _ _ made.answer made.made)

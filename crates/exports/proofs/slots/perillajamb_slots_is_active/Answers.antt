@@ -1,7 +1,7 @@
 -- `exports::slots::perillajamb_slots_is_active` meets its contract.
 -- Assumes nothing.
 use Rattle.std.proofs.Common.{ap, ◌∙◌}
-use Rattle.exports.specs.Slots.{coded_truth}
+use Rattle.exports.specs.Coded.{coded_truth}
 use Rattle.exports.proofs.slots.perillajamb_slots_is_active.Goals as goal
 
 pub returns : goal.returns

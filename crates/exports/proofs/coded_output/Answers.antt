@@ -1,2 +1,0 @@
--- `exports::coded_output` meets its contract.
--- Assumes nothing.
