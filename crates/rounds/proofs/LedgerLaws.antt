@@ -14,8 +14,8 @@ use Rattle.lists.proofs.Tests.{by_same}
 use Rattle.lists.proofs.Members.{has_no}
 use Rattle.lists.proofs.Having.{has_head, has_tail}
 use Rattle.orders.specs.Orders.{P}
-use Rattle.choosers.specs.Slots.{slot_of, state_of}
 use Rattle.choosers.proofs.SlotLaws.{slot_same, slot_none}
+use Rattle.rounds.specs.Locations.{slot_of, state_of}
 use Rattle.rounds.specs.Ledgers.{Sheet, sheet, plan_from}
 use Rattle.rounds.specs.Demand3.{terminal_in, terminal}
 use Rattle.lists.proofs.Sets.{Same, same_empty}

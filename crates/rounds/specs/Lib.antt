@@ -1,4 +1,5 @@
 pub mod Rounds
+pub mod Locations
 pub mod Ledgers
 pub mod Plans
 pub mod Histories

@@ -2,5 +2,6 @@
 #![tactic(auto)]
 
 mod lent;
+pub mod locations;
 pub mod replays;
 pub mod round;
