@@ -7,7 +7,8 @@ use Rattle.orders.specs.ReservoirCalls.{short_refusal}
 use Rattle.rounds.specs.declared.round.Round.{Round}
 use Rattle.rounds.specs.Rounds.{state, fitting, open_call, After, admit_call, join_call, withdraw_call}
 use Rattle.rounds.specs.Plans.{plan_call}
-use Rattle.rounds.specs.Replays.{call_of, replay_call, ByLedger}
+use Rattle.rounds.specs.Calls.{call_of}
+use Rattle.rounds.specs.Replays.{replay_call, ByLedger}
 use Rattle.exports.specs.Coded.{truth, coded_done, coded_number}
 use Rattle.exports.specs.Crossings.{Crossed, crossed, enough, enough_else, words_after}
 use Rattle.exports.specs.Reservoirs.{coded_exchange}

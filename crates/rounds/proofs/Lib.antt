@@ -11,6 +11,7 @@ pub mod ReplyLaws
 pub mod RefusalLaws
 pub mod FleetLaws
 pub mod ReadLaws
+pub mod CallLaws
 pub mod ReplayLaws
 pub mod RoundCallLaws
 pub mod DealLaws

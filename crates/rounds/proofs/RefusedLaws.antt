@@ -25,7 +25,8 @@ use Rattle.rounds.specs.declared.round.Round.{Round}
 use Rattle.rounds.specs.Rounds.{State, After, reservoir_of, map_of, by_reservoir, by_slots, fitting, open_call, admit_call, join_call, withdraw_call}
 use Rattle.rounds.specs.Plans.{AfterPlan, after_plan, plan_call, ScratchAfter}
 use Rattle.rounds.specs.Ledgers.{Call}
-use Rattle.rounds.specs.Replays.{known, call_of, AfterReplay, after_replay, run_of, opened_run, replay_call, ReplayScratch}
+use Rattle.rounds.specs.Calls.{known, call_of}
+use Rattle.rounds.specs.Replays.{AfterReplay, after_replay, run_of, opened_run, replay_call, ReplayScratch}
 use Rattle.rounds.specs.RefusedBy.{open_refusals, admit_refusals, join_refusals, withdraw_refusals, plan_refusals, replay_refusals}
 
 -- ---- open, admit, join and withdraw

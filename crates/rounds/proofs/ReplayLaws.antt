@@ -27,7 +27,8 @@ use Rattle.rounds.specs.Plans.{AfterPlan, after_plan, sampled, terminal_of, plan
 use Rattle.rounds.specs.Ledgers.{Call, admit, join, withdraw, Ledger, first_ledger, accept, ledger_plan, fed, fed_all}
 use Rattle.rounds.specs.Histories.{nothing_said, Opens, refusals, call, after_all, all_said}
 use Rattle.rounds.specs.Demand3.{Agree, Enough}
-use Rattle.rounds.specs.Replays.{known, call_of, coded, coded_all, read_one, read_all, AfterReplay, after_replay, run_of, opened_run, replay_call, planned_in, ByLedger, Replayed}
+use Rattle.rounds.specs.Calls.{known, call_of}
+use Rattle.rounds.specs.Replays.{coded, coded_all, read_one, read_all, AfterReplay, after_replay, run_of, opened_run, replay_call, planned_in, ByLedger, Replayed}
 use Rattle.rounds.proofs.RoundLaws.{Kept, actives_of, Shows, open_shows}
 use Rattle.rounds.proofs.StepLaws.{possible, Refuses, Takes, outcome, step, step_bytes}
 use Rattle.rounds.proofs.PlanLaws.{plan_is}

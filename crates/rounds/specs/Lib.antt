@@ -6,6 +6,7 @@ pub mod Histories
 pub mod Demand3
 pub mod Outcomes
 pub mod Fleets
+pub mod Calls
 pub mod Replays
 pub mod RefusedBy
 pub mod InnerRounds

@@ -11,7 +11,8 @@ use Rattle.std.proofs.lemmas.Result.{err_from_is_err_and}
 use Rattle.answers.specs.declared.Refusal.{Refusal}
 use Rattle.answers.specs.declared.Refusal.TheVariants.{Misfit}
 use Rattle.answers.specs.Refusals.{answer_of}
-use Rattle.rounds.specs.Replays.{known, AfterReplay, after_replay, replay_call, ReplayScratch, Replayed}
+use Rattle.rounds.specs.Calls.{known}
+use Rattle.rounds.specs.Replays.{AfterReplay, after_replay, replay_call, ReplayScratch, Replayed}
 use Rattle.rounds.proofs.ReplayTurns.{replay_unknown, replay_short, replay_refused, replay_run}
 use Rattle.rounds.proofs.ReplayLaws.{replay_ledger}
 use Rattle.rounds.proofs.replays.replay.Goals as goal
