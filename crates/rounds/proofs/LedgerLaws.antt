@@ -38,7 +38,7 @@ plan_of_same key k n A B e =
 abbrev pub slot_in : ℕ → List ℕ → List ℕ → ℕ → Option ℕ
 slot_in key A sample y = cond (has y sample) (slot_of key y A) none
 
-slot_of_none : (key x : ℕ) → slot_of key x [] ≡ none
+pub slot_of_none : (key x : ℕ) → slot_of key x [] ≡ none
 unfolding slot_of
 slot_of_none key x = slot_none (state_of key x)
 

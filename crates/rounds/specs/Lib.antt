@@ -2,6 +2,7 @@ pub mod Rounds
 pub mod Locations
 pub mod Ledgers
 pub mod Plans
+pub mod Sheets
 pub mod Histories
 pub mod Demand3
 pub mod Outcomes
