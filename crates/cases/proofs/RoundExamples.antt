@@ -16,11 +16,12 @@ use Rattle.orders.specs.Orders.{log2, layer_of, output, counted, zero_top, whole
 use Rattle.orders.specs.Reservoirs.{counts, opening, incoming, up_to_zeros, grown, wider, due}
 use Rattle.orders.specs.ReservoirCalls as Reservoir
 use Rattle.choosers.specs.Choosers.{g, largest_g, S, Q}
-use Rattle.choosers.specs.Slots.{active, deleted, actives, vacant, holder, state_of, slot_among, slot_of}
+use Rattle.choosers.specs.Slots.{active, deleted, actives, vacant, holder, slot_among}
 use Rattle.choosers.specs.SlotCalls as Slots
 use Rattle.std.specs.Prelude as rust
 use Rattle.std.proofs.Math.Path.{subst₂}
 use Rattle.answers.specs.declared.Refusal.TheVariants.{SlotNotActive}
+use Rattle.rounds.specs.Locations.{state_of, slot_of}
 use Rattle.rounds.specs.declared.round.Round.{Round}
 use Rattle.rounds.specs.Rounds.{State, state, fitting, open_call, after_open, admit_call, join_call, withdraw_call}
 use Rattle.rounds.specs.Ledgers.{Call, admit, join, withdraw, ledger, first_ledger, free_slot, accept, sheet, plan_from, ledger_plan, fed_all}

@@ -12,8 +12,9 @@ use Rattle.orders.specs.Orders.{log2, layer_of, output, counted, zero_top, whole
 use Rattle.orders.specs.Reservoirs.{counts, opening}
 use Rattle.orders.specs.ReservoirCalls as Reservoir
 use Rattle.choosers.specs.Choosers.{g, largest_g, S, Q}
-use Rattle.choosers.specs.Slots.{active, deleted, actives, vacant, holder, state_of}
+use Rattle.choosers.specs.Slots.{active, deleted, actives, vacant, holder}
 use Rattle.choosers.specs.SlotCalls as Slots
+use Rattle.rounds.specs.Locations.{state_of}
 use Rattle.rounds.specs.Rounds.{fitting, open_call, join_call, withdraw_call}
 use Rattle.rounds.specs.Plans.{terminal_of, plan_call, shown_plan}
 use Rattle.lines.specs.Lines.{lines_of}

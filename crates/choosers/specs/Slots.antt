@@ -4,7 +4,6 @@ use Rattle.std.specs.Prelude.{Bool, ◌&&◌, List, ℕ, suc, ltb, eqb, get_or}
 use Rattle.std.proofs.Math.Option
 use Rattle.std.proofs.Math.Option.{Option, none, some}
 use Rattle.lists.specs.Lists.{keep, has, zero_to, largest, find, first_from}
-use Rattle.hashes.specs.Hashes.{feed}
 use Rattle.choosers.specs.Choosers.{Q}
 
 -- "a slot below the count is active where its byte is 1 .., and no other slot is .., whatever its byte"
@@ -27,7 +26,7 @@ vacant table count = Option.get_or (first_from (deleted table count) 0 count) co
 unfoldable pub holder : ℕ → List ℕ → ℕ → Option ℕ
 holder s table count = find (active table count) (Q s count)
 
--- ---- a location's slot, from the list of active slots alone
+-- ---- the slot for a state, from the list of active slots alone
 
 -- 1 + the number, 0 where there is none
 abbrev pub one_above : Option ℕ → ℕ
@@ -38,10 +37,4 @@ one_above (some x) = suc x
 unfoldable pub slot_among : ℕ → List ℕ → Option ℕ
 slot_among s A = find (λ x. has x A) (Q s (one_above (largest A)))
 
--- "for state mix(key xor location)"
-unfoldable pub state_of : ℕ → ℕ → ℕ
-state_of key location = feed key location
-
--- "By definition a location's slot is the first active one in Q(1 + highest active slot)."
-unfoldable pub slot_of : ℕ → ℕ → List ℕ → Option ℕ
-slot_of key location A = slot_among (state_of key location) A
+-- ---- the states that slots are looked up by

@@ -1,6 +1,5 @@
 // The slot map of document 01: a slot count, and a byte a slot in a table that is lent to each call.
 ghost use Rattle.std.specs.Prelude.{◌≡◌, min, length, take, is_ok, IfOk, IfErr};
-ghost use Rattle.choosers.specs.Slots.{state_of};
 ghost use Rattle.answers.specs.Answers.{after};
 ghost use Rattle.answers.specs.Refusals.{answer_of, optional};
 ghost use Rattle.answers.specs.declared.Refusal.TheVariants.{Misfit};
@@ -13,13 +12,6 @@ use answers::Refusal;
 #[derive(Clone, Copy, Debug, PartialEq, Eq)]
 pub struct ConsistentNodeMap {
     pub total: u32,
-}
-
-// The state of a location: the one that its slot is looked up by.
-pub fn location_state(key: u64, location: u32) -> u64
-    ensures { result ≡ state_of key location }
-{
-    hashes::seq_builder(key, location as u64)
 }
 
 // The first active slot of the choice order of `count`, of as many of its numbers as the scratch has places: `get` without its

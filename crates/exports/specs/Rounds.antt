@@ -5,7 +5,8 @@ use Rattle.answers.specs.Making.{short_refusal}
 use Rattle.rounds.specs.declared.round.Round.{Round}
 use Rattle.rounds.specs.Rounds.{State, state, fitting, open_call, admit_call, join_call, withdraw_call}
 use Rattle.rounds.specs.Plans.{PlanLists, plan_lists, plan_call}
-use Rattle.rounds.specs.Replays.{call_of, ReplayMemory, replay_call, ByLedger}
+use Rattle.rounds.specs.Replays.{ReplayMemory, replay_call, ByLedger}
+use Rattle.rounds.specs.Calls.{call_of}
 use Rattle.exports.specs.Coded.{truth, coded_done}
 use Rattle.exports.specs.Crossings.{Crossed, crossed, WordsList, words_list, Layout, Lending, made, called, read_by, fits_by}
 use Rattle.exports.specs.Reservoirs.{exchange_number}

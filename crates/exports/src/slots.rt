@@ -1,8 +1,8 @@
 // Slot maps for C and Rust. The map is its slot count, which the caller keeps beside the table.
 ghost use Rattle.std.specs.Prelude.{◌≡◌, length};
 ghost use Rattle.answers.specs.Answers as Answers;
-ghost use Rattle.choosers.specs.Slots.{state_of};
 ghost use Rattle.choosers.specs.SlotCalls.{map_of, fitting, len_call, is_empty_call, is_active_call, look_up, get_call, ScratchFree};
+ghost use Rattle.rounds.specs.Locations.{state_of};
 ghost use Rattle.exports.specs.Coded.{truth, coded_truth, coded_number, coded_hash};
 ghost use Rattle.exports.specs.Crossings.{crossed};
 ghost use Rattle.exports.specs.Slots.{add_crossed, remove_crossed, ScratchAfter};
@@ -10,6 +10,7 @@ ghost use Rattle.exports.specs.Slots.{add_crossed, remove_crossed, ScratchAfter}
 use crate::parts;
 use choosers::node_map;
 use choosers::node_map::ConsistentNodeMap;
+use rounds::locations;
 
 // The lowest deleted slot, else a new one.
 pub fn perillajamb_slots_add(total: u32, table: &mut [u8]) -> u64
@@ -82,5 +83,5 @@ pub fn perillajamb_first_active(state: u64, total: u32, table: &[u8], scratch: &
 pub fn perillajamb_location_state(key: u64, location: u32) -> u64
     ensures { result ≡ state_of key location }
 {
-    node_map::location_state(key, location)
+    locations::location_state(key, location)
 }

@@ -1,8 +1,8 @@
 // Slot maps.
 ghost use Rattle.std.specs.Prelude.{◌≡◌, length};
 ghost use Rattle.answers.specs.Answers as Answers;
-ghost use Rattle.choosers.specs.Slots.{state_of};
 ghost use Rattle.choosers.specs.SlotCalls.{map_of, fitting, len_call, is_empty_call, is_active_call, look_up, get_call, ScratchFree};
+ghost use Rattle.rounds.specs.Locations.{state_of};
 ghost use Rattle.exports.specs.Coded.{truth, coded_number, coded_hash};
 ghost use Rattle.exports.specs.Crossings.{crossed_one};
 ghost use Rattle.exports.specs.Slots.{coded_truth, add_crossed, remove_crossed, ScratchAfter};

@@ -1,11 +1,11 @@
--- f 0, f 1, .., f (k − 1).
+-- f 0, f 1, .., f (k − 1); and a list by its places.
 -- Assumes nothing.
 use mathlib.Core.Path.{◌≡◌, refl, ap, ◌∙◌}
 use mathlib.Core.List.{List, [], ◌∷◌, ◌++◌, map}
 use Prim.Native.Nat.{ℕ, zero, suc, ◌+◌, ◌≤◌, ◌<◌}
 use native.Mathlib.Omega.{arith}
 use native.Mathlib.Nat.{add-zero, zero-add}
-use lib.ListN.{get_or}
+use lib.ListN.{length, get_or}
 use Rattle.lists.specs.Lists.{from, zero_to}
 use Rattle.lists.proofs.Ranges.{zero_to_suc}
 
@@ -31,3 +31,13 @@ from_agree f h a (suc c) e = rw (e a (omega arith) (omega arith), from_agree f h
 
 pub listing_agree : (f h : ℕ → ℕ) (k : ℕ) → ((t : ℕ) → t < k → f t ≡ h t) → map f (zero_to k) ≡ map h (zero_to k)
 listing_agree f h k e = from_agree f h 0 k (λ t p q. e t (omega arith))
+
+-- ---- a list by its places
+
+map_from_suc : {A : Type 0} (f : ℕ → A) (a c : ℕ) → map f (from (suc a) c) ≡ map (λ (t : ℕ). f (suc t)) (from a c)
+map_from_suc f a zero = refl
+map_from_suc {A} f a (suc c) = ap (λ (r : List A). f (suc a) ∷ r) (map_from_suc f (suc a) c)
+
+pub map_places : {A : Type 0} (f : ℕ → A) (xs : List ℕ) → map (λ (t : ℕ). f (get_or xs t 0)) (zero_to (length xs)) ≡ map f xs
+map_places f [] = refl
+map_places {A} f (x ∷ xs) = ap (λ (r : List A). f x ∷ r) (map_from_suc (λ (t : ℕ). f (get_or (x ∷ xs) t 0)) 0 (length xs) ∙ map_places f xs)

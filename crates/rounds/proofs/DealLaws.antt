@@ -26,8 +26,8 @@ use Rattle.orders.specs.Reservoirs.{counts}
 use Rattle.orders.proofs.CountsLaws.{counts_ltb}
 use Rattle.orders.proofs.GatherLaws.{filter_is_keep}
 use Rattle.orders.specs.ReservoirCalls.{sample}
-use Rattle.choosers.specs.Slots.{state_of}
 use Rattle.choosers.specs.SlotCalls.{look_up}
+use Rattle.rounds.specs.Locations.{state_of}
 use Rattle.rounds.specs.declared.round.Round.{Round}
 use Rattle.rounds.specs.Rounds.{reservoir_of}
 use Rattle.rounds.specs.InnerRounds.{dealt_to}

@@ -14,8 +14,8 @@ use Rattle.lists.proofs.Tests.{by_same}
 use Rattle.lists.proofs.Members.{has_no}
 use Rattle.lists.proofs.Having.{has_head, has_tail}
 use Rattle.orders.specs.Orders.{P}
-use Rattle.choosers.specs.Slots.{slot_of, state_of}
 use Rattle.choosers.proofs.SlotLaws.{slot_same, slot_none}
+use Rattle.rounds.specs.Locations.{slot_of, state_of}
 use Rattle.rounds.specs.Ledgers.{Sheet, sheet, plan_from}
 use Rattle.rounds.specs.Demand3.{terminal_in, terminal}
 use Rattle.lists.proofs.Sets.{Same, same_empty}
@@ -38,7 +38,7 @@ plan_of_same key k n A B e =
 abbrev pub slot_in : ℕ → List ℕ → List ℕ → ℕ → Option ℕ
 slot_in key A sample y = cond (has y sample) (slot_of key y A) none
 
-slot_of_none : (key x : ℕ) → slot_of key x [] ≡ none
+pub slot_of_none : (key x : ℕ) → slot_of key x [] ≡ none
 unfolding slot_of
 slot_of_none key x = slot_none (state_of key x)
 

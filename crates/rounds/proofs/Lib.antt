@@ -6,11 +6,13 @@ pub mod RefusedLaws
 pub mod FormLaws
 pub mod MadeLaws
 pub mod MoveLaws
+pub mod SheetLaws
 pub mod Demand3Laws
 pub mod ReplyLaws
 pub mod RefusalLaws
 pub mod FleetLaws
 pub mod ReadLaws
+pub mod CallLaws
 pub mod ReplayLaws
 pub mod RoundCallLaws
 pub mod DealLaws

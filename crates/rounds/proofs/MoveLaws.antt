@@ -19,8 +19,9 @@ use Rattle.orders.specs.Orders.{P}
 use Rattle.orders.specs.Reservoirs.{due, kth, in_and_out, n_after}
 use Rattle.orders.proofs.ReservoirLaws.{sample_is}
 use Rattle.orders.proofs.AdmissionLaws.{admit_exchange}
-use Rattle.choosers.specs.Slots.{active, state_of, slot_of}
+use Rattle.choosers.specs.Slots.{active}
 use Rattle.choosers.proofs.SlotLaws.{has_actives, slot_out, slot_put}
+use Rattle.rounds.specs.Locations.{state_of, slot_of}
 use Rattle.rounds.specs.Rounds.{reservoir_of, State}
 use Rattle.rounds.specs.Ledgers.{Call, admit, join, withdraw, Ledger, free_slot, due_in, accept, exchanged, answer, Sheet, sheet, plan_from}
 use Rattle.rounds.specs.Plans.{sampled, shown_plan}

@@ -18,9 +18,10 @@ use Rattle.orders.proofs.CheckLaws.{fits_parts}
 use Rattle.std.specs.Prelude.{Result, Ok, Err}
 use Rattle.answers.specs.declared.Refusal.{Refusal}
 use Rattle.answers.specs.Refusals.{number, answer_of}
-use Rattle.choosers.specs.Slots.{actives, state_of}
+use Rattle.choosers.specs.Slots.{actives}
 use Rattle.choosers.specs.SlotCalls.{slot_limit}
 use Rattle.choosers.proofs.GetLaws.{look_all}
+use Rattle.rounds.specs.Locations.{state_of}
 use Rattle.rounds.specs.declared.round.Round.{Round}
 use Rattle.rounds.specs.Rounds.{reservoir_of, map_of, state, fitting}
 use Rattle.rounds.specs.Plans.{terminal_of, plan_call, plan_lists}

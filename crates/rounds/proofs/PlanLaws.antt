@@ -15,9 +15,10 @@ use Rattle.lists.proofs.Tests.{by_test}
 use Rattle.lists.proofs.Having.{has_head}
 use Rattle.lists.proofs.Writing.{written_take}
 use Rattle.orders.proofs.ReservoirLaws.{sample_is, sample_length}
-use Rattle.choosers.specs.Slots.{holder, state_of, slot_of, slot_among}
+use Rattle.choosers.specs.Slots.{holder, slot_among}
 use Rattle.choosers.specs.SlotCalls as Slots
 use Rattle.choosers.proofs.SlotLaws.{holder_slot, slot_some}
+use Rattle.rounds.specs.Locations.{state_of, slot_of}
 use Rattle.rounds.specs.Rounds.{reservoir_of, State}
 use Rattle.rounds.specs.Ledgers.{Ledger, Sheet, sheet, plan_from, ledger_plan}
 use Rattle.rounds.specs.Plans.{sampled, terminal_of, plan_call, sheets, shown_plan, plan_lists}

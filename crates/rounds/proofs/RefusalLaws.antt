@@ -12,9 +12,9 @@ use Rattle.answers.specs.Answers.{Answer, refusal, result, After}
 use Rattle.lists.specs.Lists.{has}
 use Rattle.answers.proofs.AnswerLaws.{not_said, refusal_same}
 use Rattle.lists.proofs.Tests.{by_cond}
-use Rattle.choosers.specs.Slots.{state_of, slot_of}
 use Rattle.choosers.specs.SlotCalls as Slots
 use Rattle.choosers.proofs.GetLaws.{get_slot}
+use Rattle.rounds.specs.Locations.{state_of, slot_of}
 use Rattle.rounds.specs.Rounds.{State, map_of}
 use Rattle.rounds.specs.Ledgers.{Call, admit, join, withdraw, Ledger, due_in, free_slot, answer}
 use Rattle.rounds.specs.Plans.{terminal_of, plan_call, PlanLists}

@@ -28,8 +28,9 @@ use Rattle.rounds.specs.declared.round.Round.{Round}
 use Rattle.rounds.specs.Rounds.{State, reservoir_of, map_of, by_reservoir, by_slots, fitting, open_call, admit_call, join_call, withdraw_call}
 use Rattle.rounds.specs.Plans.{plan_call, ScratchAfter, plan_lists, PlanLists}
 use Rattle.rounds.specs.Ledgers.{Call}
-use Rattle.rounds.specs.Replays.{known, call_of, run_of, opened_run, replay_call, ReplayScratch, ReplayMemory, replay_memory}
+use Rattle.rounds.specs.Replays.{run_of, opened_run, replay_call, ReplayScratch, ReplayMemory, replay_memory}
 use Rattle.rounds.specs.RefusedBy.{open_refusals, admit_refusals, join_refusals, withdraw_refusals, plan_refusals, replay_refusals}
+use Rattle.rounds.specs.Calls.{known, call_of}
 
 -- ---- open, admit, join and withdraw
 

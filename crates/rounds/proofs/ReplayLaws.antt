@@ -27,7 +27,8 @@ use Rattle.rounds.specs.Plans.{sampled, terminal_of, plan_call, shown_plan, Plan
 use Rattle.rounds.specs.Ledgers.{Call, admit, join, withdraw, Ledger, first_ledger, accept, ledger_plan, fed, fed_all}
 use Rattle.rounds.specs.Histories.{nothing_said, Opens, refusals, call, after_all, all_said}
 use Rattle.rounds.specs.Demand3.{Agree, Enough}
-use Rattle.rounds.specs.Replays.{known, call_of, coded, coded_all, read_one, read_all, run_of, opened_run, replay_call, planned_in, ByLedger, Replayed, ReplayMemory, replay_memory}
+use Rattle.rounds.specs.Replays.{coded, coded_all, read_one, read_all, run_of, opened_run, replay_call, planned_in, ByLedger, Replayed, ReplayMemory, replay_memory}
+use Rattle.rounds.specs.Calls.{call_of, known}
 use Rattle.rounds.proofs.RoundLaws.{Kept, actives_of, Shows, open_shows}
 use Rattle.rounds.proofs.StepLaws.{possible, Refuses, Takes, outcome, step, step_bytes}
 use Rattle.rounds.proofs.PlanLaws.{plan_is}

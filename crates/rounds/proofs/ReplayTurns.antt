@@ -1,7 +1,7 @@
--- A call by its number, the answers written one after the other, and what replay leaves by its tests.
+-- The answers written one after the other, and what replay leaves by its tests.
 -- Assumes nothing.
 use mathlib.Core.Path.{◌≡◌, refl, sym, ap, ◌∙◌}
-use mathlib.Core.Bool.{Bool, ◌&&◌, true, false, true≢false}
+use mathlib.Core.Bool.{true, false}
 use mathlib.Core.List.{List, [], ◌∷◌, ◌++◌, map, append_assoc, append-nil}
 use Prim.Native.Nat.{ℕ, ◌+◌, ◌*◌, ◌/◌, ◌≤◌, ◌<◌, ◌^◌}
 use native.Mathlib.Numerals.{add-one}
@@ -10,50 +10,22 @@ use borrow.Author.Tests.{lt-ltb, le-ltb}
 use lib.ListN.{length, take, drop, get_or, length-append, length-map, drop_of_length-le}
 use lib.Seq.{drop-cons, drop-append-add, drop-drop, take_at, get_or_at, length-take-le}
 use Rattle.answers.specs.Answers.{Answer, refusal, result, map_answer, after}
-use Rattle.std.proofs.Math.Seq.{take-length}
-use Rattle.std.specs.List.{list_all}
 use Rattle.lists.specs.Lists.{every, written}
-use Rattle.lists.proofs.Ranges.{every_place}
-use Rattle.std.specs.Prelude.{Result, Ok, Err, is_ok}
+use Rattle.std.specs.Prelude.{Result, Ok, Err}
 use Rattle.answers.specs.declared.Refusal.{Refusal}
 use Rattle.answers.specs.Refusals.{number, answer_of}
 use Rattle.answers.specs.Making.{short_refusal}
-use Rattle.rounds.specs.declared.replays.Call as numbered
 use Rattle.rounds.specs.declared.round.Round.{Round}
 use Rattle.rounds.specs.Rounds.{State, state, open_call}
 use Rattle.rounds.specs.Plans.{plan_call, ScratchAfter, plan_lists}
 use Rattle.rounds.specs.Ledgers.{Call}
 use Rattle.rounds.specs.Histories.{nothing_said, call, after_all, all_said}
-use Rattle.rounds.specs.Replays.{known, call_of, coded, coded_all, run_of, replay_call, ScratchRun, replay_memory}
-use Rattle.rounds.specs.InnerReplays.{as_call, Reads, placed_at, Stepped, stepped, step_of}
-
--- ---- the test of the numbers
+use Rattle.rounds.specs.Calls.{known, call_of}
+use Rattle.rounds.specs.Replays.{coded, coded_all, run_of, replay_call, ScratchRun, replay_memory}
+use Rattle.rounds.specs.InnerReplays.{placed_at, Stepped, stepped, step_of}
 
 rest_cons : (codes : List ℕ) (i : ℕ) → i < length codes → drop i codes ≡ get_or codes i 0 ∷ drop (i + 1) codes
 rest_cons codes i h = rw (add-one, drop-cons codes i 0 h)
-
--- the library's `all` is `every`
-pub known_all : (codes : List ℕ) → list_all known codes ≡ every known codes
-unfolding every
-known_all [] = refl
-known_all (x ∷ codes) = ap (λ (b : Bool). known x && b) (known_all codes)
-
-pub known_at : (codes : List ℕ) (i : ℕ) → every known codes ≡ true → i < length codes → known (get_or codes i 0) ≡ true
-known_at codes i e h = every_place known codes (length codes) i (rw (take-length codes) e) h h
-
--- ---- a number as a call
-
--- read, or not known
-pub read_call : (x : ℕ) (c : numbered.Call) (r : Result numbered.Call Refusal) → Reads x r → r ≡ Ok c → as_call c ≡ call_of x
-read_call x c r p e = (rw e at p).1
-
-pub reads_is : (x : ℕ) (r : Result numbered.Call Refusal) → Reads x r → is_ok r ≡ known x
-reads_is x (Ok c) p = sym p.0
-reads_is x (Err w) p = sym p.0
-
-pub reads_ok : (x : ℕ) (r : Result numbered.Call Refusal) → Reads x r → known x ≡ true → is_ok r ≡ true
-reads_ok x (Ok c) p y = refl
-reads_ok x (Err w) p y = absurd (true≢false (sym y ∙ p.0))
 
 -- ---- four numbers over the places from p on
 

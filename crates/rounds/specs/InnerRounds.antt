@@ -5,8 +5,9 @@ use Rattle.std.proofs.Math.Option.{get_or}
 use Rattle.answers.specs.Answers.{Answer, refusal, result}
 use Rattle.orders.specs.declared.consistent_reservoir.ConsistentReservoir.{ConsistentReservoir}
 use Rattle.choosers.specs.declared.node_map.ConsistentNodeMap.{ConsistentNodeMap}
-use Rattle.choosers.specs.Slots.{actives, state_of}
+use Rattle.choosers.specs.Slots.{actives}
 use Rattle.choosers.specs.SlotCalls as Slots
+use Rattle.rounds.specs.Locations.{state_of}
 use Rattle.rounds.specs.declared.round.Round.{Round}
 use Rattle.rounds.specs.Rounds.{reservoir_of, map_of, round_of, State, fitting}
 

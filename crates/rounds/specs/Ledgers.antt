@@ -6,7 +6,7 @@ use Rattle.answers.specs.Answers.{Answer, refusal, result}
 use Rattle.lists.specs.Lists.{has, without, first_from}
 use Rattle.orders.specs.Orders.{P}
 use Rattle.orders.specs.Reservoirs.{due, in_and_out, n_after}
-use Rattle.choosers.specs.Slots.{slot_of}
+use Rattle.rounds.specs.Locations.{slot_of}
 
 -- "the calls in order, each by name with its numbers but no memory"
 pub data Call : Type 0 where

@@ -1,10 +1,13 @@
 pub mod Rounds
+pub mod Locations
 pub mod Ledgers
 pub mod Plans
+pub mod Sheets
 pub mod Histories
 pub mod Demand3
 pub mod Outcomes
 pub mod Fleets
+pub mod Calls
 pub mod Replays
 pub mod RefusedBy
 pub mod InnerRounds

@@ -6,8 +6,9 @@ use Rattle.answers.specs.Answers.{Answer, result, map_answer, After, refused, af
 use Rattle.lists.specs.Lists.{written}
 use Rattle.answers.specs.declared.Refusal.{Refusal}
 use Rattle.orders.specs.ReservoirCalls as Reservoir
-use Rattle.choosers.specs.Slots.{actives, holder, state_of}
+use Rattle.choosers.specs.Slots.{actives, holder}
 use Rattle.choosers.specs.SlotCalls as Slots
+use Rattle.rounds.specs.Locations.{state_of}
 use Rattle.rounds.specs.Rounds.{reservoir_of, State, fitting}
 use Rattle.rounds.specs.Ledgers.{Sheet, sheet}
 

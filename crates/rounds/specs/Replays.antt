@@ -1,26 +1,18 @@
--- `replay`: an open, a list of calls and a plan in one call, so that demand 3 stands in the promise of code that runs. How calls
--- and answers are written as numbers; what replay says and leaves; and what its answers are by the ledger alone.
+-- `replay`: an open, a list of calls and a plan in one call, so that demand 3 stands in the promise of code that runs. How
+-- answers are written as numbers; what replay says and leaves; and what its answers are by the ledger alone.
 -- Assumes nothing.
-use Rattle.std.specs.Prelude.{◌≡◌, ◌≢◌, Bool, cond, ◌||◌, List, [], ◌∷◌, ◌++◌, map, ℕ, zero, suc, ◌+◌, ◌*◌, ◌^◌, ◌/◌, ◌%◌, ltb, eqb, length, get_or, take, drop, Result, Ok, Err}
+use Rattle.std.specs.Prelude.{◌≡◌, ◌≢◌, cond, List, [], ◌∷◌, ◌++◌, map, ℕ, zero, suc, ◌+◌, ◌*◌, ◌^◌, ltb, eqb, length, get_or, take, drop, Result, Ok, Err}
 use Rattle.answers.specs.Answers.{Answer, refusal, result, map_answer, After, after, refused}
 use Rattle.lists.specs.Lists.{every, written}
 use Rattle.answers.specs.declared.Refusal.{Refusal}
 use Rattle.answers.specs.Making.{short_refusal}
 use Rattle.rounds.specs.declared.round.Round.{Round}
 use Rattle.rounds.specs.Rounds.{State, state, open_call}
-use Rattle.rounds.specs.Ledgers.{Call, admit, join, withdraw, first_ledger, Sheet, ledger_plan, fed_all}
+use Rattle.rounds.specs.Ledgers.{Call, first_ledger, Sheet, ledger_plan, fed_all}
 use Rattle.rounds.specs.Plans.{plan_call, shown_plan, plan_lists}
 use Rattle.rounds.specs.Histories.{nothing_said, refusals, after_all, all_said}
 use Rattle.rounds.specs.Demand3.{Agree, Enough}
-
--- ---- calls as numbers
-
--- 0 is an admit, 1 a join, 2^32 + s the withdraw of slot s; no other number is a call
-unfoldable pub known : ℕ → Bool
-known x = eqb x 0 || eqb x 1 || eqb (x / 2 ^ 32) 1
-
-unfoldable pub call_of : ℕ → Call
-call_of x = cond (eqb x 0) admit (cond (eqb x 1) join (withdraw (x % 2 ^ 32)))
+use Rattle.rounds.specs.Calls.{known, call_of}
 
 -- ---- answers as numbers
 

@@ -8,40 +8,15 @@ ghost use Rattle.orders.specs.ReservoirCalls.{answer_of_exchange};
 ghost use Rattle.rounds.specs.Rounds.{state};
 ghost use Rattle.rounds.specs.Ledgers.{exchanged};
 ghost use Rattle.rounds.specs.Histories.{slot_said, nothing_said, after_all, all_said};
-ghost use Rattle.rounds.specs.Replays.{known, call_of, coded, coded_all, replay_memory, run_of, replay_call, ScratchRun, ReplayScratch, Replayed};
-ghost use Rattle.rounds.specs.InnerReplays.{Reads, placed_at, stepped, step_of, as_call};
+ghost use Rattle.rounds.specs.Calls.{known, call_of, as_call};
+ghost use Rattle.rounds.specs.Replays.{coded, coded_all, replay_memory, run_of, replay_call, ScratchRun, ReplayScratch, Replayed};
+ghost use Rattle.rounds.specs.InnerReplays.{placed_at, stepped, step_of};
 
+use crate::calls::Call;
 use crate::round;
 use crate::round::Round;
 use answers::Refusal;
 use orders::consistent_reservoir::{ConsistentReservoir, Exchange};
-
-// A call on a round. Its number is 0 for an admit, 1 for a join, 2^32 + s for the withdraw of slot s.
-#[derive(Clone, Copy)]
-enum Call {
-    Admit,
-    Join,
-    Withdraw(u32),
-}
-
-impl TryFrom<u64> for Call {
-    type Error = Refusal;
-
-    ghost try_from_gives = { Reads };
-
-    fn try_from(code: u64) -> Result<Call, Refusal> {
-        if code == 0 {
-            return Ok(Call::Admit);
-        }
-        if code == 1 {
-            return Ok(Call::Join);
-        }
-        if code / 0x1_0000_0000 != 1 {
-            return Err(Refusal::Misfit);
-        }
-        Ok(Call::Withdraw((code % 0x1_0000_0000) as u32))
-    }
-}
 
 // What a call says: the refusal's number or 0, how many values there are, and two places for them.
 // Four words, as C reads a replay's answers, and one function for each kind of answer.

@@ -9,6 +9,7 @@ ghost use Rattle.rounds.specs.Rounds.{fitting, open_call, state, admit_call, joi
 ghost use Rattle.rounds.specs.Plans.{plan_lists, plan_call, ScratchAfter};
 ghost use Rattle.rounds.specs.InnerRounds.{begun, with_reservoir, with_map, idle_of, dealt_to};
 
+use crate::locations;
 use answers::Refusal;
 use choosers::node_map;
 use choosers::node_map::ConsistentNodeMap;
@@ -155,7 +156,7 @@ fn is_idle(r: Round, list: &[u32], table: &[u8]) -> Result<bool, Refusal>
 fn terminal(key: u64, total: u32, table: &[u8], location: u32, scratch: &mut [u64]) -> u32
     ensures { result ≡ dealt_to key total table.now (length scratch.old) location }
 {
-    let state = node_map::location_state(key, location);
+    let state = locations::location_state(key, location);
     node_map::first_active(total, table, state, scratch).unwrap_or(0)
 }
 

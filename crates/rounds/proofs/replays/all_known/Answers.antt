@@ -3,8 +3,8 @@
 use Rattle.std.proofs.Common.{rules, ◌∙◌}
 use Rattle.std.proofs.lemmas.Iterator.{YieldsList-from_slice}
 use Rattle.std.proofs.lemmas.Iterator.Search.{all_from_yields_List}
-use Rattle.rounds.specs.Replays.{known}
-use Rattle.rounds.proofs.ReplayTurns.{known_all, reads_is}
+use Rattle.rounds.specs.Calls.{known}
+use Rattle.rounds.proofs.CallLaws.{known_all, reads_is}
 use Rattle.rounds.proofs.replays.all_known.Goals as goal
 
 pub returns : goal.returns

@@ -12,7 +12,8 @@ use Rattle.answers.specs.declared.Refusal.{Refusal}
 use Rattle.answers.specs.declared.Refusal.TheVariants.{Misfit}
 use Rattle.answers.specs.Refusals.{answer_of}
 use Rattle.answers.specs.Answers.{After, after}
-use Rattle.rounds.specs.Replays.{known, replay_call, ReplayScratch, Replayed, ReplayMemory, replay_memory}
+use Rattle.rounds.specs.Replays.{replay_call, ReplayScratch, Replayed, ReplayMemory, replay_memory}
+use Rattle.rounds.specs.Calls.{known}
 use Rattle.rounds.proofs.ReplayTurns.{replay_unknown, replay_short, replay_refused, replay_run}
 use Rattle.rounds.proofs.ReplayLaws.{replay_ledger}
 use Rattle.rounds.proofs.replays.replay.Goals as goal

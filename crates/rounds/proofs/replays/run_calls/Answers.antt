@@ -1,7 +1,8 @@
 -- `rounds::replays::run_calls` meets its contract.
 -- Assumes nothing.
 use Rattle.std.proofs.Common.{refl, ◌∙◌}
-use Rattle.rounds.proofs.ReplayTurns.{after_turn, placed_turn, after_end, placed_end, placed_written, read_call, reads_ok, known_at}
+use Rattle.rounds.proofs.CallLaws.{read_call, reads_ok, known_at}
+use Rattle.rounds.proofs.ReplayTurns.{after_turn, placed_turn, after_end, placed_end, placed_written}
 use Rattle.rounds.proofs.replays.run_calls.Goals as goal
 
 pub loop-i-init : goal.loop-i-init

@@ -5,7 +5,7 @@ use mathlib.Core.List.{map}
 use Prim.Native.Nat.{◌*◌}
 use Rattle.rounds.specs.Rounds.{state}
 use Rattle.rounds.specs.Histories.{after_all}
-use Rattle.rounds.specs.Replays.{call_of}
+use Rattle.rounds.specs.Calls.{call_of}
 use Rattle.rounds.proofs.ReplayTurns.{calls_from, placed_all}
 use Rattle.rounds.proofs.replays.run_calls.Given as goal
 

@@ -1,8 +1,8 @@
--- `rounds::replays::Call::try_from` meets its contract.
+-- `rounds::calls::Call::try_from` meets its contract.
 -- Assumes nothing.
 use Rattle.std.proofs.Common.{refl, eq-eqb, ne_eqb}
-use Rattle.rounds.specs.Replays.{known, call_of}
-use Rattle.rounds.proofs.replays.CallTryFromU64.try_from.Goals as goal
+use Rattle.rounds.specs.Calls.{known, call_of}
+use Rattle.rounds.proofs.calls.CallTryFromU64.try_from.Goals as goal
 
 pub returns-then-code-eq0 : goal.returns-then-code-eq0
 unfolding known call_of
