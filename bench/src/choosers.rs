@@ -26,7 +26,7 @@ fn making(k: u64) {
     let ours = || {
         let (mut list, mut record) = (vec![0; k as usize], [0; 3]);
         states.iter().fold(0, |sum, &state| {
-            proved::chooser_new_with_k(state, N, k, &mut list, &mut record).unwrap();
+            proved::chooser_new_with_k(state, k, N, &mut record, &mut list).unwrap();
             sum ^ mixed(list.iter().copied())
         })
     };

@@ -25,7 +25,7 @@ fn used(k: u32, list: &mut [u32]) -> Vec<u32> {
     let mut lengths: Vec<u32> = (0..trials(k))
         .map(|_| {
             let n = site(k, &mut draws);
-            proved::reservoir_new(k, n, draws.next(), list, &mut record).unwrap();
+            proved::reservoir_new(draws.next(), k, n, &mut record, list).unwrap();
             record[5]
         })
         .collect();

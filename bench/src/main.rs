@@ -85,7 +85,7 @@ fn layers() {
         let turns = ((1u64 << 22) / u64::from(n)).max(1);
         let ours = || {
             (0..turns).fold(0, |s, t| {
-                s ^ u64::from(proved::layer_xors(layer, KEY ^ t, n).unwrap()) << (t % 8)
+                s ^ u64::from(proved::layer_xors(KEY ^ t, layer, n).unwrap()) << (t % 8)
             })
         };
         let theirs = || (0..turns).fold(0, |s, t| s ^ layer_xors(layer, KEY ^ t, n) << (t % 8));
@@ -100,7 +100,7 @@ fn layers() {
         let runs = |f: &dyn Fn(u32) -> u32| {
             (0..turns).fold(0, |s, _| s + (0..n).fold(0, |s, x| s ^ u64::from(f(x))))
         };
-        let ours = || runs(&|x| proved::layer_apply(layer, KEY, x).unwrap());
+        let ours = || runs(&|x| proved::layer_apply(KEY, layer, x).unwrap());
         let theirs = || runs(&|x| layer_apply(layer, KEY, x));
         report(
             &format!("layer_apply of layer {layer}, one call each"),

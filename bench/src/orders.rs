@@ -30,7 +30,7 @@ fn by_calls(n: u32, key: u64, count: u32) -> u64 {
 
 fn our_by_calls(n: u32, key: u64, count: u32) -> u64 {
     let mut order = [0; 18];
-    proved::order_new(n, key, &mut order).unwrap();
+    proved::order_new(key, n, &mut order).unwrap();
     (0..count).fold(0, |sum, _| {
         sum ^ u64::from(proved::order_next(&mut order).unwrap().unwrap())
     })
@@ -49,7 +49,7 @@ pub fn all() {
         };
         compared(
             "digested",
-            |n, key, count| proved::order_digest(n, key, count).unwrap(),
+            |n, key, count| proved::order_digest(key, n, count).unwrap(),
             digest,
         );
         compared("a call each", our_by_calls, by_calls);
@@ -62,7 +62,7 @@ fn tested() {
     let calls = 1 << 20;
     let ours = || {
         let mut order = [0; 18];
-        proved::order_new(0, KEY, &mut order).unwrap();
+        proved::order_new(KEY, 0, &mut order).unwrap();
         (0..calls).fold(0, |sum, _| {
             sum + u64::from(proved::order_next(&mut order).unwrap().is_none())
         })

@@ -21,7 +21,7 @@ impl Lent {
     }
 
     fn open(&mut self, k: u32, n: u32, key: u64) {
-        proved::reservoir_new(k, n, key, &mut self.list, &mut self.record).unwrap();
+        proved::reservoir_new(key, k, n, &mut self.record, &mut self.list).unwrap();
     }
 
     /// The numbers listed.

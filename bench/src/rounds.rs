@@ -31,7 +31,7 @@ impl Lent {
             list: vec![0; 8 * k as usize + 64],
             table: slots.table.clone(),
         };
-        proved::round_open(KEY, k, n, &mut lent.list, &mut lent.record).unwrap();
+        proved::round_open(KEY, k, n, &mut lent.record, &mut lent.list).unwrap();
         lent.record[6] = slots.total();
         lent
     }
@@ -53,7 +53,7 @@ impl Lent {
     fn join_and_withdraw(&mut self) -> u32 {
         let (record, list, table) = (&mut self.record, &self.list, &mut self.table);
         let slot = proved::round_join(record, list, table).unwrap();
-        proved::round_withdraw(record, list, table, slot).unwrap();
+        proved::round_withdraw(slot, record, list, table).unwrap();
         slot
     }
 }

@@ -50,7 +50,7 @@ fn looking_up(what: &str, slots: &Slots, states: &[u64]) {
     let ours = || {
         let mut scratch = vec![0; table.len()];
         found(states, |state| {
-            proved::first_active(total, table, state, &mut scratch).unwrap()
+            proved::first_active(state, total, table, &mut scratch).unwrap()
         })
     };
     let theirs = || found(states, |state| get(slots, state).unwrap());
@@ -61,7 +61,7 @@ fn looking_up(what: &str, slots: &Slots, states: &[u64]) {
     let whole = || {
         let mut scratch = vec![0; table.len()];
         found(states, |state| {
-            proved::slots_get(total, table, state, &mut scratch).unwrap()
+            proved::slots_get(state, total, table, &mut scratch).unwrap()
         })
     };
     report_alone(

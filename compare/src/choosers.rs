@@ -119,7 +119,7 @@ fn made(
     let (said, expected) = match k {
         None => (proved::chooser_new(state, n, words), theirs.make(state, n)),
         Some(k) => (
-            proved::chooser_new_with_k(state, n, k, list, words),
+            proved::chooser_new_with_k(state, k, n, words, list),
             theirs.make_with_k(state, n, k),
         ),
     };
@@ -166,7 +166,7 @@ pub fn samples(draws: &mut Draws) -> Option<String> {
     let mut ours = vec![UNTOUCHED_WIDE; k as usize + 2];
     let mut expected = sample(state, k, n);
     expected.resize(ours.len(), UNTOUCHED_WIDE);
-    let said = proved::chooser_new_with_k(state, n, k, &mut ours, &mut [0; 3]);
+    let said = proved::chooser_new_with_k(state, k, n, &mut [0; 3], &mut ours);
     differ(
         format_args!("state {state:#x} n {n} k {k}"),
         (told(said), ours),
@@ -188,7 +188,7 @@ pub fn refusals(draws: &mut Draws) -> Option<String> {
         let (record, list) = (&mut ours.record[..words], &mut ours.list);
         let said = [
             proved::chooser_new(state, n, record).err(),
-            proved::chooser_new_with_k(state, n, k.unwrap_or(0), list, record).err(),
+            proved::chooser_new_with_k(state, k.unwrap_or(0), n, record, list).err(),
             proved::chooser_grow_k(record, list).err(),
             proved::chooser_next(record, list).err(),
             proved::chooser_shrink_n(record, list).err(),

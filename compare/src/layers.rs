@@ -24,7 +24,7 @@ pub fn layer_apply(draws: &mut Draws) -> Option<String> {
     let theirs = oracle::layer_apply(layer, key, x);
     differ(
         format!("layer {layer} key {key:#x} x {x}"),
-        proved::layer_apply(layer, key, x),
+        proved::layer_apply(key, layer, x),
         Ok(theirs),
     )
 }
@@ -37,7 +37,7 @@ pub fn layer_xors(draws: &mut Draws) -> Option<String> {
     let theirs = (0..n).fold(0, |sum, x| sum ^ oracle::layer_apply(layer, key, x));
     differ(
         format!("layer {layer} key {key:#x} over 0..{n}"),
-        proved::layer_xors(layer, key, n),
+        proved::layer_xors(key, layer, n),
         Ok(theirs),
     )
 }
@@ -53,14 +53,14 @@ pub fn refusals(draws: &mut Draws) -> Option<String> {
     };
     differ(
         format!("layer {layer} key {key:#x} x {x}"),
-        proved::layer_apply(layer, key, x),
+        proved::layer_apply(key, layer, x),
         Err(Refused(12)),
     )
     .or_else(|| {
         let n = x.saturating_add(1);
         differ(
             format!("layer {layer} key {key:#x} over 0..{n}"),
-            proved::layer_xors(layer, key, n),
+            proved::layer_xors(key, layer, n),
             Err(Refused(12)),
         )
     })

@@ -21,10 +21,10 @@ pub fn any_places(bytes: usize, draws: &mut Draws) -> usize {
 fn looked_up(slots: &Slots, state: u64, places: usize) -> (Told<u32>, Option<u32>, bool) {
     let Slots { total, table } = slots;
     let mut memory = vec![UNTOUCHED_WIDE; places + 2];
-    let got = proved::slots_get(*total, table, state, &mut memory[..places]);
+    let got = proved::slots_get(state, *total, table, &mut memory[..places]);
     let free = if got.is_ok() { places } else { 0 };
     let kept = memory[free..].iter().all(|&x| x == UNTOUCHED_WIDE);
-    let first = proved::first_active(*total, table, state, &mut memory[..places]);
+    let first = proved::first_active(state, *total, table, &mut memory[..places]);
     let kept = kept && memory[places..] == [UNTOUCHED_WIDE; 2];
     (told(got), first, kept)
 }

@@ -35,7 +35,7 @@ pub fn steps(draws: &mut Draws) -> Option<String> {
     };
     let mut theirs = Order::new(n, key);
     let mut ours = [UNTOUCHED; 20];
-    let said = proved::order_new(n, key, &mut ours);
+    let said = proved::order_new(key, n, &mut ours);
     differ(
         format_args!("n {n} key {key:#x}, new"),
         (said, ours),
@@ -59,7 +59,7 @@ pub fn digest(draws: &mut Draws) -> Option<String> {
     let count = draws.below(100) as u32;
     differ(
         format_args!("n {n} key {key:#x}, {count} calls"),
-        proved::order_digest(n, key, count),
+        proved::order_digest(key, n, count),
         Ok(oracle::order_digest(n, key, count)),
     )
 }
@@ -104,10 +104,10 @@ pub fn refusals(draws: &mut Draws) -> Option<String> {
     let mut ours = [UNTOUCHED; 20];
     let words = draws.below(18) as usize;
     let said = [
-        proved::order_new(high, key, &mut ours).err(),
-        proved::order_digest(high, key, draws.below(4) as u32).err(),
-        proved::order_new(high, key, &mut ours[..words]).err(),
-        proved::order_new(n, key, &mut ours[..words]).err(),
+        proved::order_new(key, high, &mut ours).err(),
+        proved::order_digest(key, high, draws.below(4) as u32).err(),
+        proved::order_new(key, high, &mut ours[..words]).err(),
+        proved::order_new(key, n, &mut ours[..words]).err(),
         proved::order_next(&mut ours[..words]).err(),
     ];
     differ(

@@ -105,7 +105,7 @@ impl Side<Call> for Memory {
 
 /// Opens on both sides.
 fn opened(k: u32, n: u32, key: u64, ours: &mut Lent, theirs: &mut Reservoir) -> Option<String> {
-    let said = proved::reservoir_new(k, n, key, &mut ours.list, &mut ours.record);
+    let said = proved::reservoir_new(key, k, n, &mut ours.record, &mut ours.list);
     let expected = theirs.open(k, n, key);
     let places = ours.list.len();
     differ(
@@ -175,7 +175,7 @@ pub fn refusals(draws: &mut Draws) -> Option<String> {
         let (record, list) = (&mut ours.record[..words], &mut ours.list);
         let mut out = [UNTOUCHED; 4];
         let said = [
-            proved::reservoir_new(k, n, key, list, record).err(),
+            proved::reservoir_new(key, k, n, record, list).err(),
             proved::reservoir_next(record, list).err(),
             proved::reservoir_grow_layer(record, list).err(),
             proved::reservoir_sample(record, list, &mut out).err(),

@@ -113,7 +113,7 @@ fn changed(call: RoundCall, lent: &mut Lent) -> Told<Vec<u32>> {
             .map(|pair| pair.map_or(vec![], |(came, went)| vec![came, went])),
         RoundCall::Join => told(proved::round_join(words, list, table)).map(|slot| vec![slot]),
         RoundCall::Withdraw(slot) => {
-            told(proved::round_withdraw(words, list, table, slot)).map(|()| vec![])
+            told(proved::round_withdraw(slot, words, list, table)).map(|()| vec![])
         }
     }
 }
@@ -192,8 +192,8 @@ pub fn open(lent: &mut Lent, (key, k, n): Open) -> Told<()> {
         key,
         k,
         n,
-        &mut lent.list,
         &mut lent.record.0,
+        &mut lent.list,
     ))
 }
 
@@ -282,10 +282,10 @@ pub fn refusals(draws: &mut Draws) -> Option<String> {
     let (list, mut plan, mut scratch) = (&mut ours.list, [[UNTOUCHED; 4]; 2], [0; 4]);
     let [locations, terminals] = &mut plan;
     let said = [
-        proved::round_open(key, k, n, list, record).err(),
+        proved::round_open(key, k, n, record, list).err(),
         proved::round_admit(record, list, table).err(),
         proved::round_join(record, list, table).err(),
-        proved::round_withdraw(record, list, table, 0).err(),
+        proved::round_withdraw(0, record, list, table).err(),
         proved::round_plan(record, list, table, locations, terminals, &mut scratch).err(),
         proved::round_fits(record, list, table).err(),
     ];

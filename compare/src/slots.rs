@@ -30,13 +30,13 @@ impl sides::Call for Call {
                 lent.record = after;
                 slot
             }),
-            Call::Remove(slot) => proved::slots_remove(total, table, slot).map(|after| {
+            Call::Remove(slot) => proved::slots_remove(slot, total, table).map(|after| {
                 lent.record = after;
                 0
             }),
             Call::Len => proved::slots_len(total, table),
             Call::IsEmpty => proved::slots_is_empty(total, table).map(u32::from),
-            Call::IsActive(slot) => proved::slots_is_active(total, table, slot).map(u32::from),
+            Call::IsActive(slot) => proved::slots_is_active(slot, total, table).map(u32::from),
             Call::Fits => proved::slots_fits(total, table).map(u32::from),
         };
         told(said)

@@ -1,12 +1,12 @@
 // Choosers.
 ghost use Rattle.std.specs.Prelude.{◌≡◌};
-ghost use Rattle.exports.specs.Crossings.{crossed, crossed_one};
+ghost use Rattle.exports.specs.Crossings.{crossed, words_list};
 ghost use Rattle.exports.specs.Chooser.{new_crossed, new_with_k_crossed, grow_crossed, next_crossed, shrink_crossed, fits_crossed};
 
 // No sample of 0..n yet.
 #[unsafe(no_mangle)]
 pub extern "C" fn perillajamb_chooser_new(state: u64, n: u64, words: &mut [u64]) -> u64
-    ensures { crossed_one result words.new ≡ new_crossed state n words.old }
+    ensures { crossed result words.new ≡ new_crossed state n words.old }
 {
     exports::chooser::perillajamb_chooser_new(state, n, words)
 }
@@ -15,20 +15,20 @@ pub extern "C" fn perillajamb_chooser_new(state: u64, n: u64, words: &mut [u64])
 #[unsafe(no_mangle)]
 pub extern "C" fn perillajamb_chooser_new_with_k(
     state: u64,
-    n: u64,
     k: u64,
-    list: &mut [u64],
+    n: u64,
     words: &mut [u64],
+    list: &mut [u64],
 ) -> u64
-    ensures { crossed result words.new list.new ≡ new_with_k_crossed state n k list.old words.old }
+    ensures { crossed result (words_list words.new list.new) ≡ new_with_k_crossed state k n words.old list.old }
 {
-    exports::chooser::perillajamb_chooser_new_with_k(state, n, k, list, words)
+    exports::chooser::perillajamb_chooser_new_with_k(state, k, n, words, list)
 }
 
 // One sample more.
 #[unsafe(no_mangle)]
 pub extern "C" fn perillajamb_chooser_grow_k(words: &mut [u64], list: &mut [u64]) -> u64
-    ensures { crossed result words.new list.new ≡ grow_crossed words.old list.old }
+    ensures { crossed result (words_list words.new list.new) ≡ grow_crossed words.old list.old }
 {
     exports::chooser::perillajamb_chooser_grow_k(words, list)
 }
@@ -36,7 +36,7 @@ pub extern "C" fn perillajamb_chooser_grow_k(words: &mut [u64], list: &mut [u64]
 // The next number of the choice order.
 #[unsafe(no_mangle)]
 pub extern "C" fn perillajamb_chooser_next(words: &mut [u64], list: &mut [u64]) -> u64
-    ensures { crossed result words.new list.new ≡ next_crossed words.old list.old }
+    ensures { crossed result (words_list words.new list.new) ≡ next_crossed words.old list.old }
 {
     exports::chooser::perillajamb_chooser_next(words, list)
 }
@@ -44,7 +44,7 @@ pub extern "C" fn perillajamb_chooser_next(words: &mut [u64], list: &mut [u64]) 
 // n becomes the last sample.
 #[unsafe(no_mangle)]
 pub extern "C" fn perillajamb_chooser_shrink_n(words: &mut [u64], list: &mut [u64]) -> u64
-    ensures { crossed result words.new list.new ≡ shrink_crossed words.old list.old }
+    ensures { crossed result (words_list words.new list.new) ≡ shrink_crossed words.old list.old }
 {
     exports::chooser::perillajamb_chooser_shrink_n(words, list)
 }

@@ -11,10 +11,11 @@ pub mod slots;
 ghost use Rattle.std.specs.Prelude.{◌≡◌};
 ghost use Rattle.words.specs.Words.{wrapping_mul, rotate_right, mix};
 ghost use Rattle.layers.specs.Calls.{layer_apply};
+ghost use Rattle.layers.specs.Layer.{layer};
 ghost use Rattle.hashes.specs.Hashes.{feed};
 ghost use Rattle.hashes.specs.Calls.{prev_call, next_call};
 ghost use Rattle.hashes.specs.Walks.{fall, rise};
-ghost use Rattle.exports.specs.Coded.{coded, layer_xors, coded_hash, coded_number, falling_digest, rising_digest};
+ghost use Rattle.exports.specs.Coded.{layer_xors, coded_hash, coded_number, falling_digest, rising_digest};
 
 #[unsafe(no_mangle)]
 pub extern "C" fn perillajamb_wrapping_mul(a: u64, b: u64) -> u64
@@ -38,19 +39,19 @@ pub extern "C" fn perillajamb_splitmix64(v: u64) -> u64
 }
 
 #[unsafe(no_mangle)]
-pub extern "C" fn perillajamb_layer_apply(layer: u32, key: u64, x: u32) -> u64
-    ensures { result ≡ coded (layer_apply layer key x) }
+pub extern "C" fn perillajamb_layer_apply(key: u64, layer: u32, x: u32) -> u64
+    ensures { result ≡ coded_number (layer_apply layer key x) }
 {
-    exports::perillajamb_layer_apply(layer, key, x)
+    exports::perillajamb_layer_apply(key, layer, x)
 }
 
 // What one layer applied in a loop over its inputs costs: their outputs, xored. Refusal 12 where there is no such layer or n is above
 // its size.
 #[unsafe(no_mangle)]
-pub extern "C" fn perillajamb_layer_xors(layer: u32, key: u64, n: u32) -> u64
-    ensures { result ≡ coded (layer_xors layer key n) }
+pub extern "C" fn perillajamb_layer_xors(key: u64, layer: u32, n: u32) -> u64
+    ensures { result ≡ coded_number (layer_xors key layer n) }
 {
-    exports::perillajamb_layer_xors(layer, key, n)
+    exports::perillajamb_layer_xors(key, layer, n)
 }
 
 #[unsafe(no_mangle)]

@@ -1,8 +1,10 @@
 // Rounds.
 ghost use Rattle.std.specs.Prelude.{◌≡◌, length};
-ghost use Rattle.exports.specs.Crossings.{crossed};
+ghost use Rattle.rounds.specs.Plans.{plan_lists};
+ghost use Rattle.rounds.specs.Replays.{replay_memory};
+ghost use Rattle.exports.specs.Crossings.{crossed, words_list};
 ghost use Rattle.exports.specs.Slots.{ScratchAfter};
-ghost use Rattle.exports.specs.Rounds.{open_crossed, crossed_round, admit_crossed, join_crossed, withdraw_crossed, crossed_plan, plan_crossed, fits_crossed, crossed_replay, replay_crossed, ReplayScratchAs, ReplayedAs};
+ghost use Rattle.exports.specs.Rounds.{lent, open_crossed, admit_crossed, join_crossed, withdraw_crossed, plan_crossed, fits_crossed, replay_crossed, ReplayScratchAs, ReplayedAs};
 
 // Open with k of n.
 #[unsafe(no_mangle)]
@@ -10,18 +12,18 @@ pub extern "C" fn perillajamb_round_open(
     key: u64,
     k: u32,
     n: u32,
-    list: &mut [u32],
     words: &mut [u32],
+    list: &mut [u32],
 ) -> u64
-    ensures { crossed result words.new list.new ≡ open_crossed key k n list.old words.old }
+    ensures { crossed result (words_list words.new list.new) ≡ open_crossed key k n words.old list.old }
 {
-    exports::round::perillajamb_round_open(key, k, n, list, words)
+    exports::round::perillajamb_round_open(key, k, n, words, list)
 }
 
 // Admit.
 #[unsafe(no_mangle)]
 pub extern "C" fn perillajamb_round_admit(words: &mut [u32], list: &mut [u32], table: &[u8]) -> u64
-    ensures { crossed_round result words.new list.new table.now ≡ admit_crossed words.old list.old table.now }
+    ensures { crossed result (lent words.new list.new table.now) ≡ admit_crossed (lent words.old list.old table.now) }
 {
     exports::round::perillajamb_round_admit(words, list, table)
 }
@@ -29,7 +31,7 @@ pub extern "C" fn perillajamb_round_admit(words: &mut [u32], list: &mut [u32], t
 // Join: the terminal's slot.
 #[unsafe(no_mangle)]
 pub extern "C" fn perillajamb_round_join(words: &mut [u32], list: &[u32], table: &mut [u8]) -> u64
-    ensures { crossed_round result words.new list.now table.new ≡ join_crossed words.old list.now table.old }
+    ensures { crossed result (lent words.new list.now table.new) ≡ join_crossed (lent words.old list.now table.old) }
 {
     exports::round::perillajamb_round_join(words, list, table)
 }
@@ -37,14 +39,14 @@ pub extern "C" fn perillajamb_round_join(words: &mut [u32], list: &[u32], table:
 // Withdraw.
 #[unsafe(no_mangle)]
 pub extern "C" fn perillajamb_round_withdraw(
+    slot: u32,
     words: &mut [u32],
     list: &[u32],
     table: &mut [u8],
-    slot: u32,
 ) -> u64
-    ensures { crossed_round result words.new list.now table.new ≡ withdraw_crossed words.old list.now table.old slot }
+    ensures { crossed result (lent words.new list.now table.new) ≡ withdraw_crossed slot (lent words.old list.now table.old) }
 {
-    exports::round::perillajamb_round_withdraw(words, list, table, slot)
+    exports::round::perillajamb_round_withdraw(slot, words, list, table)
 }
 
 // The sampled locations and their slots, in the first k places of the two lists.
@@ -57,7 +59,7 @@ pub extern "C" fn perillajamb_round_plan(
     terminals: &mut [u32],
     scratch: &mut [u64],
 ) -> u64
-    ensures answer { crossed_plan result locations.new terminals.new ≡ plan_crossed words.now list.now table.now locations.old terminals.old (length scratch.old) }
+    ensures answer { crossed result (plan_lists locations.new terminals.new) ≡ plan_crossed (lent words.now list.now table.now) locations.old terminals.old (length scratch.old) }
     ensures scratch_after { ScratchAfter result scratch.old scratch.new }
 {
     exports::round::perillajamb_round_plan(words, list, table, locations, terminals, scratch)
@@ -66,7 +68,7 @@ pub extern "C" fn perillajamb_round_plan(
 // Whether the record fits its list and its table: 1 or 0.
 #[unsafe(no_mangle)]
 pub extern "C" fn perillajamb_round_fits(words: &[u32], list: &[u32], table: &[u8]) -> u64
-    ensures { result ≡ fits_crossed words.now list.now table.now }
+    ensures { result ≡ fits_crossed (lent words.now list.now table.now) }
 {
     exports::round::perillajamb_round_fits(words, list, table)
 }
@@ -85,7 +87,7 @@ pub extern "C" fn perillajamb_round_replay(
     terminals: &mut [u32],
     scratch: &mut [u64],
 ) -> u64
-    ensures answer { crossed_replay result list.new table.new answers.new locations.new terminals.new ≡ replay_crossed key k n calls.now list.old table.old answers.old locations.old terminals.old (length scratch.old) }
+    ensures answer { crossed result (replay_memory list.new table.new answers.new locations.new terminals.new) ≡ replay_crossed key k n calls.now list.old table.old answers.old locations.old terminals.old (length scratch.old) }
     ensures replayed_as { ReplayedAs result key k n calls.now (length table.old) (length scratch.old) answers.new locations.new terminals.new }
     ensures replay_scratch_as { ReplayScratchAs result (length calls.now) answers.new scratch.old scratch.new }
 {
