@@ -18,9 +18,9 @@ use Rattle.lists.proofs.Tests.{by_test, by_below}
 use Rattle.lines.specs.Replies.{text_of}
 use Rattle.lines.specs.Sessions.{World, Response, respond}
 use Rattle.lines.specs.Streams.{Progress, progress, byte, fed_part, fed_up_to, room_for, count, after_feed, feed_call, end_call}
-use Rattle.lines.specs.InnerLines.{Put}
+use Rattle.fields.specs.Texts.{Put}
 use Rattle.lines.specs.InnerSessions.{Holds, Stepped, Took}
-use Rattle.lines.proofs.PutLaws.{put_none, put_written}
+use Rattle.fields.proofs.PutLaws.{put_none, put_written}
 use Rattle.lines.proofs.HeldLaws.{take_cut, respond_first}
 use Rattle.lines.proofs.StreamLaws.{byte_line, byte_held}
 

@@ -21,8 +21,9 @@ use Rattle.rounds.specs.Plans.{AfterPlan, after_plan, plan_call, shown_plan}
 use Rattle.rounds.specs.Ledgers.{Sheet}
 use Rattle.rounds.specs.RefusedBy.{open_refusals, admit_refusals, join_refusals, withdraw_refusals, plan_refusals}
 use Rattle.rounds.proofs.RefusedLaws as rounds
-use Rattle.lines.specs.Lines.{fields, alike}
-use Rattle.lines.specs.Commands.{number_of, key_of, admit_word, join_word, plan_word, withdraw_word, open_word, word_alone, withdraw_form, word_and_one, open_form, word_and_three, by_fields, command_of, parse_call}
+use Rattle.fields.specs.Lines.{fields, alike}
+use Rattle.fields.specs.Numbers.{number_of, key_of}
+use Rattle.lines.specs.Commands.{admit_word, join_word, plan_word, withdraw_word, open_word, word_alone, withdraw_form, word_and_one, open_form, word_and_three, by_fields, command_of, parse_call}
 use Rattle.lines.specs.declared.commands.Command.{Command}
 use Rattle.lines.specs.declared.commands.Command.TheVariants as command
 use Rattle.lines.specs.declared.sessions.Session.{Session}

@@ -6,7 +6,7 @@ use mathlib.Core.List.{List, [], ◌++◌}
 use Prim.Native.Nat.{ℕ}
 use lib.ListN.{take}
 use Rattle.lists.proofs.Writing.{written_take}
-use Rattle.lines.specs.Lines.{lines_of}
+use Rattle.fields.specs.Lines.{lines_of}
 use Rattle.lines.specs.Sessions.{World, answers}
 use Rattle.lines.specs.Streams.{progress}
 use Rattle.lines.specs.Inputs.{fed, ended}

@@ -9,7 +9,7 @@ use lib.Dec.{eqb}
 use lib.ListN.{length, take, length-take}
 use borrow.Author.Tests.{eq-eqb, ne_eqb}
 use Rattle.lists.proofs.Tests.{by_test}
-use Rattle.lines.specs.Lines.{onto, lines_of}
+use Rattle.fields.specs.Lines.{onto, lines_of}
 use Rattle.lines.specs.Replies.{text_of}
 use Rattle.lines.specs.Sessions.{World, respond, Response, answers}
 use Rattle.lines.specs.Streams.{Progress, progress, byte}

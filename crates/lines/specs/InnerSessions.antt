@@ -4,7 +4,7 @@ use Rattle.std.specs.Prelude.{◌≡◌, List, ℕ, ◌≤◌, ◌<◌, length, 
 use Rattle.lists.specs.Lists.{written}
 use Rattle.lines.specs.Sessions.{World}
 use Rattle.lines.specs.Streams.{held_most, Progress, progress, fed_part, fed_up_to}
-use Rattle.lines.specs.InnerLines.{Put}
+use Rattle.fields.specs.Texts.{Put}
 
 -- the first m bytes of a list are these
 pub record Holds (m : ℕ) (line bytes : List ℕ) : Type 0 where

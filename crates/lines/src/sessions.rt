@@ -1,15 +1,15 @@
 // A session: bytes are fed in whatever pieces they come, and the answers to the lines that they end are put into a list.
 ghost use Rattle.std.specs.Prelude.{◌≡◌, ◌==◌, [], ◌++◌, ◌≤◌, ◌<◌, ◌+◌, length, take};
 ghost use Rattle.std.specs.List.{position};
+ghost use Rattle.fields.specs.Texts.{HasRoom, SameList, Puts};
 ghost use Rattle.lines.specs.Replies.{text_of};
 ghost use Rattle.lines.specs.Sessions.{respond};
 ghost use Rattle.lines.specs.Streams.{held_most, progress, room_for, world_of, after_call, feed_call, end_call, BuffersAfter, SameLists};
-ghost use Rattle.lines.specs.InnerLines.{HasRoom, SameList, Puts};
 ghost use Rattle.lines.specs.InnerSessions.{Holds, Stepped, Took};
 
 use crate::calls;
-use crate::texts::Text;
 use answers::Refusal;
+use fields::texts::Text;
 use rounds::round::Round;
 
 // Of a line that has not ended its first bytes are held, so many, which is enough to know that it is too long.

@@ -1,0 +1,5 @@
+// Text that knows no round: bytes cut into lines, the fields of a line, numbers and keys read and printed.
+#![tactic(auto)]
+
+pub mod numbers;
+pub mod texts;
