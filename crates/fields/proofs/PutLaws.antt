@@ -18,7 +18,7 @@ use Rattle.fields.proofs.DecimalLaws.{decimal_one, decimal_snoc}
 -- ---- one text after another
 
 -- in other words: the list then is what stood before the text, the text, and what stands behind it
-put_is : {a b t : List ℕ} {at r : ℕ} → Put a at t b r → b ≡ take at a ++ (t ++ drop r a)
+pub put_is : {a b t : List ℕ} {at r : ℕ} → Put a at t b r → b ≡ take at a ++ (t ++ drop r a)
 unfolding written
 put_is {a} {b} {t} {at} {r} p =
     let e : drop (length t) (drop at a) ≡ drop r a = drop-drop (length t) at a ∙ ap (λ (k : ℕ). drop k a) (sym p.next_is) in

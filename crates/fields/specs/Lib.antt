@@ -2,3 +2,5 @@ pub mod Lines
 pub mod Numbers
 pub mod Printing
 pub mod Texts
+pub mod Cuts
+pub mod Inputs

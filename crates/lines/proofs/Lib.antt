@@ -2,7 +2,6 @@ pub mod CommandLaws
 pub mod CommandExamples
 pub mod ReplyLaws
 pub mod TextExamples
-pub mod HeldLaws
 pub mod StreamLaws
 pub mod LineLaws
 pub mod FeedLaws

@@ -31,7 +31,8 @@ use Rattle.lines.specs.declared.sessions.Memory.{Memory}
 use Rattle.lines.specs.declared.sessions.Fed.{Fed}
 use Rattle.lines.specs.Replies.{Reply, joined, withdrawn, planned}
 use Rattle.lines.specs.Sessions.{replied, site, said, replaced, open_line, exchange_reply, admit_line, join_line, withdraw_line, World, world, Response, response, plan_line, on_site, answered, respond}
-use Rattle.lines.specs.Streams.{AfterFeed, after_feed, held_most, room_for, answer_of_feeding, world_of, after_call, feed_call, end_call, BuffersAfter}
+use Rattle.fields.specs.Cuts.{held_most}
+use Rattle.lines.specs.Streams.{AfterFeed, after_feed, room_for, answer_of_feeding, world_of, after_call, feed_call, end_call, BuffersAfter}
 use Rattle.lines.specs.RefusedBy.{parse_refusals, feed_refusals, finish_refusals, answer_of_reply, line_refusals}
 
 -- ---- parse

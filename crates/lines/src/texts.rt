@@ -42,10 +42,7 @@ fn push_place(text: &mut Text, place: u32, location: u32, slot: u32)
     ensures lent { SameList text.old text.new }
     ensures puts { PutsFirst text.old (place_line place (sheet location (some slot))) text.new }
 {
-    text.push_number(place);
-    text.push_tabbed(location);
-    text.push_tabbed(slot);
-    text.push(b'\n');
+    text.push_three(place, location, slot);
 }
 
 fn push_plan(text: &mut Text, locations: &[u32], terminals: &[u32], k: u32)

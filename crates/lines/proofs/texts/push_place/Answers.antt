@@ -1,15 +1,8 @@
 -- `lines::texts::push_place` meets its contract.
 -- Assumes nothing.
-use mathlib.Core.Path.{◌∙◌}
-use Rattle.fields.proofs.PutLaws.{first_then}
 use Rattle.lines.specs.Replies.{place_line}
 use Rattle.lines.proofs.texts.push_place.Goals as goal
 
 pub returns-clause-puts : goal.returns-clause-puts
 unfolding place_line
-returns-clause-puts c =
-    let a = c.push_number.ensures in
-    let b = c.push_tabbed.ensures in
-    let d = c.push_tabbed-2.ensures in
-    let two = b.lent.1 ∙ a.lent.1 in
-    first_then _ _ (d.lent.1 ∙ two) (first_then _ _ two (first_then _ _ a.lent.1 a.puts b.puts) d.puts) c.push.ensures.puts
+returns-clause-puts c = c.push_three.ensures.puts

@@ -1,8 +1,8 @@
--- `fields::texts::Text::push_one` meets its contract.
+-- `fields::texts::Text::cut_one` meets its contract.
 -- Assumes nothing.
 use mathlib.Core.Path.{◌∙◌}
 use Rattle.fields.proofs.PutLaws.{first_then}
-use Rattle.fields.proofs.texts.Text.push_one.Goals as goal
+use Rattle.fields.proofs.texts.Text.cut_one.Goals as goal
 
 pub returns-clause-puts : goal.returns-clause-puts
 returns-clause-puts c =
