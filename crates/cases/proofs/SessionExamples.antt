@@ -17,9 +17,11 @@ use Rattle.choosers.specs.SlotCalls as Slots
 use Rattle.rounds.specs.Locations.{state_of}
 use Rattle.rounds.specs.Rounds.{fitting, open_call, join_call, withdraw_call}
 use Rattle.rounds.specs.Plans.{terminal_of, plan_call, shown_plan}
-use Rattle.lines.specs.Lines.{lines_of}
-use Rattle.lines.specs.Commands.{within, digit_of, number_of, key_of, word_alone, word_and_one, word_and_three, command_of}
-use Rattle.lines.specs.Replies.{decimal_of, tabbed, place_line, text_of}
+use Rattle.fields.specs.Lines.{lines_of}
+use Rattle.fields.specs.Numbers.{within, digit_of, number_of, key_of}
+use Rattle.fields.specs.Printing.{decimal_of, tabbed}
+use Rattle.lines.specs.Commands.{word_alone, word_and_one, word_and_three, command_of}
+use Rattle.lines.specs.Replies.{place_line, text_of}
 use Rattle.lines.specs.Sessions.{World, world, site, open_line, join_line, withdraw_line, plan_line, answered, respond, answers}
 use Rattle.std.specs.Prelude.{None}
 

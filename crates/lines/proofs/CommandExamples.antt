@@ -5,7 +5,8 @@ use mathlib.Core.List.{[], ◌∷◌}
 use lib.ListN.{replicate}
 use Rattle.answers.specs.Answers.{refusal, result}
 use Rattle.lines.specs.declared.commands.Command.TheVariants.{Open, Admit, Join, Withdraw, Plan}
-use Rattle.lines.specs.Commands.{within, digit_of, number_of, key_of, word_alone, word_and_one, word_and_three, command_of}
+use Rattle.fields.specs.Numbers.{within, digit_of, number_of, key_of}
+use Rattle.lines.specs.Commands.{word_alone, word_and_one, word_and_three, command_of}
 
 -- the lines of document 01's table: 'open\t0000000000000001\t1\t1'
 pub open_example : command_of (111 ∷ 112 ∷ 101 ∷ 110 ∷ 9 ∷ 48 ∷ 48 ∷ 48 ∷ 48 ∷ 48 ∷ 48 ∷ 48 ∷ 48 ∷ 48 ∷ 48 ∷ 48 ∷ 48 ∷ 48 ∷ 48 ∷ 48 ∷ 49 ∷ 9 ∷ 49 ∷ 9 ∷ 49 ∷ []) ≡ result (Open 1 1 1)

@@ -1,27 +1,26 @@
 -- Bytes taken line by line, as the code takes them.
 -- Assumes nothing.
 use mathlib.Core.Path.{◌≡◌, refl, sym, ap, ◌∙◌, subst}
-use mathlib.Core.Bool.{or-true, cond}
+use mathlib.Core.Bool.{or-true}
 use mathlib.Core.List.{List, [], ◌∷◌, ◌++◌, append_assoc, append-nil}
 use Prim.Native.Nat.{ℕ, suc, ◌+◌, ◌-◌, ◌≤◌, ◌<◌}
 use native.Mathlib.Omega.{arith}
-use native.Mathlib.Numerals.{add-one}
 use borrow.Author.Tests.{le-leb, lt-leb, lt-ltb, le-ltb, ne_eqb}
 use lib.Dec.{eqb}
 use lib.ListN.{length, take, drop, get_or, length-append, length-take, length-drop, drop_of_length-le}
-use lib.Seq.{take_at, take_all, drop-drop, length-take-le, drop-cons}
-use Rattle.std.specs.Prelude.{Option, Some, None}
-use Rattle.std.specs.List.{position_or_len, position}
+use lib.Seq.{take_at, drop-drop, length-take-le, drop-cons}
 use Rattle.answers.specs.Answers.{refusal, result}
 use Rattle.lists.specs.Lists.{written}
-use Rattle.lists.proofs.Tests.{by_test, by_below}
+use Rattle.lists.proofs.Tests.{by_test}
 use Rattle.lines.specs.Replies.{text_of}
 use Rattle.lines.specs.Sessions.{World, Response, respond}
 use Rattle.lines.specs.Streams.{Progress, progress, byte, fed_part, fed_up_to, room_for, count, after_feed, feed_call, end_call}
-use Rattle.lines.specs.InnerLines.{Put}
-use Rattle.lines.specs.InnerSessions.{Holds, Stepped, Took}
-use Rattle.lines.proofs.PutLaws.{put_none, put_written}
-use Rattle.lines.proofs.HeldLaws.{take_cut, respond_first}
+use Rattle.fields.specs.Texts.{Put}
+use Rattle.lines.specs.InnerSessions.{Stepped, Took}
+use Rattle.fields.specs.Cuts.{end_of}
+use Rattle.fields.proofs.CutLaws.{take_cut, Ended, Held}
+use Rattle.fields.proofs.PieceLaws.{held_few}
+use Rattle.fields.proofs.PutLaws.{put_none, put_written}
 use Rattle.lines.proofs.StreamLaws.{byte_line, byte_held}
 
 -- ---- a line's answer
@@ -30,35 +29,7 @@ use Rattle.lines.proofs.StreamLaws.{byte_line, byte_held}
 abbrev pub Hears : Response → World → List ℕ → ℕ → List ℕ → ℕ → Type 0
 Hears h w out at out' put = (w ≡ h.world) × Put out at (text_of h.reply) out' put
 
--- nothing is held, and the line is what is there
-pub response_bare : (w : World) (line bytes : List ℕ) (held : ℕ) → held ≡ 0 → respond w bytes ≡ respond w (take 81 (take held line ++ bytes))
-response_bare w line bytes held e = sym (respond_first w bytes) ∙ ap (λ (m : ℕ). respond w (take 81 (take m line ++ bytes))) (sym e)
-
 -- ---- bytes up to the first line feed
-
--- where it is, or the length
-abbrev pub end_of : List ℕ → ℕ
-end_of [] = 0
-end_of (b ∷ l) = cond (eqb b 10) 0 (suc (end_of l))
-
--- as std's `position` finds it
-end_is : (l : List ℕ) → position_or_len (λ b. eqb b 10) l ≡ end_of l
-end_is [] = refl
-end_is (b ∷ l) = by_test (eqb b 10) (λ y. rw y) (λ n. rw (n, end_is l) (omega arith))
-
-pub end_some : (l : List ℕ) (e : ℕ) → position (λ b. eqb b 10) l ≡ Some e → (e ≡ end_of l) × (e < length l)
-end_some l e h =
-    by_below (position_or_len (λ b. eqb b 10) l) (length l)
-    (λ p. let q : ◌≡◌ {A = Option ℕ} (Some (position_or_len (λ b. eqb b 10) l)) (Some e) = rw (lt-ltb _ _ p) at h in
-    let same : position_or_len (λ b. eqb b 10) l ≡ e = cc in
-    (sym same ∙ end_is l, omega arith))
-    (λ p. let q : ◌≡◌ {A = Option ℕ} None (Some e) = rw (le-ltb _ _ p) at h in cc)
-
-pub end_none : (l : List ℕ) → position (λ b. eqb b 10) l ≡ None → length l ≤ end_of l
-end_none l h =
-    by_below (position_or_len (λ b. eqb b 10) l) (length l)
-    (λ p. let q : ◌≡◌ {A = Option ℕ} (Some (position_or_len (λ b. eqb b 10) l)) None = rw (lt-ltb _ _ p) at h in cc)
-    (λ p. omega (arith, end_is l))
 
 module _ (most : ℕ) (w : World) (t : List ℕ) (m : length t ≤ most) where
   feed_one : (h : List ℕ) (b : ℕ) (l : List ℕ) → fed_up_to most (progress w h t) (b ∷ l) ≡ fed_up_to most (byte (progress w h t) b) l
@@ -105,48 +76,43 @@ put_take {out} {text} {out'} {at} {put} p =
     ap (take put) (p.bytes ∙ sym (append_assoc (take at out) text (drop (length text) (drop at out))))
     ∙ take_at (take at out ++ text) (drop (length text) (drop at out)) put n
 
-held_few : (line : List ℕ) (held : ℕ) → held ≤ 81 → take held line ≡ take 81 (take held line)
-held_few line held h = sym (take_all 81 (take held line) (omega (arith, length-take held line)))
-
-module _ (bytes : List ℕ) (w : World) (line out : List ℕ) (held at e : ℕ) (few : held ≤ 81) (is : e ≡ end_of bytes) where
+module _ (bytes : List ℕ) (w : World) (line out : List ℕ) (held at : ℕ) (few : held ≤ 81) where
   -- a line feed is there, and its line was answered
-  pub step_line : (w' : World) (line' out' : List ℕ) (put : ℕ) → e < length bytes → Hears (respond w (take 81 (take held line ++ take e bytes))) w' out at out' put
-      → Stepped bytes w line out held at w' line' out' 0 (e + 1) put
-  step_line w' line' out' put h x =
-      let a = respond w (take 81 (take held line ++ take e bytes)) in
+  pub step_line : (got : List ℕ) (taken : ℕ) → Ended bytes (take held line) got taken → (w' : World) (line' out' : List ℕ) (put : ℕ) → Hears (respond w got) w' out at out' put
+      → Stepped bytes w line out held at w' line' out' 0 taken put
+  step_line got taken g w' line' out' put x =
+      let a = respond w got in
       record {
         few = omega arith;
-        some = omega arith;
-        inside = omega arith;
+        some = omega (arith, g.taken_is);
+        inside = omega (arith, g.taken_is, g.inside);
         text = text_of a.reply;
         puts = x.1;
         is = λ most m.
             let n : length (take at out) ≤ most = omega (arith, length-take at out) in
-            let g : end_of bytes < length bytes = omega arith in
-            let q : respond w (take 81 (take held line ++ take (end_of bytes) bytes)) ≡ a = ap (λ (i : ℕ). respond w (take 81 (take held line ++ take i bytes))) (sym is) in
+            let answered : Response → Progress = λ z. progress z.world [] (take at out ++ text_of z.reply) in
             ap (λ (l : List ℕ). fed_up_to most (progress w l (take at out)) bytes) (held_few line held few)
-            ∙ feed_line most w (take at out) n (take held line) bytes g
-            ∙ ap (λ (z : Response). fed_up_to most (progress z.world [] (take at out ++ text_of z.reply)) (drop (suc (end_of bytes)) bytes)) q
-            ∙ ap (λ (l : List ℕ). fed_up_to most (progress a.world [] l) (drop (suc (end_of bytes)) bytes)) (sym (put_take x.1))
-            ∙ ap (λ (v : World). fed_up_to most (progress v [] (take put out')) (drop (suc (end_of bytes)) bytes)) (sym x.0)
-            ∙ ap (λ (i : ℕ). fed_up_to most (progress w' [] (take put out')) (drop i bytes)) (ap suc (sym is) ∙ sym (add-one e));
+            ∙ feed_line most w (take at out) n (take held line) bytes g.inside
+            ∙ ap (λ (l : List ℕ). fed_up_to most (answered (respond w l)) (drop (suc (end_of bytes)) bytes)) (sym g.bytes_are)
+            ∙ ap (λ (i : ℕ). fed_up_to most (answered a) (drop i bytes)) (sym g.taken_is)
+            ∙ ap (λ (l : List ℕ). fed_up_to most (progress a.world [] l) (drop taken bytes)) (sym (put_take x.1))
+            ∙ ap (λ (v : World). fed_up_to most (progress v [] (take put out')) (drop taken bytes)) (sym x.0);
       }
 
   -- none is there, and all bytes are held
-  pub step_held : (line' : List ℕ) (n : ℕ) → 0 < length bytes → length bytes ≤ e → at ≤ length out → Holds n line' (take 81 (take held line ++ bytes))
+  pub step_held : (line' : List ℕ) (n : ℕ) → Held bytes (take held line) (take n line') n → 0 < length bytes → at ≤ length out
       → Stepped bytes w line out held at w line' out n (length bytes) at
-  step_held line' n some h a x = record {
-    few = omega (arith, x.size, length-take 81 (take held line ++ bytes));
+  step_held line' n g some a = record {
+    few = g.few;
     some = some;
     inside = omega arith;
     text = [];
     puts = put_none out at a;
     is = λ most m.
         let q : length (take at out) ≤ most = omega (arith, length-take at out) in
-        let g : length bytes ≤ end_of bytes = omega arith in
         ap (λ (l : List ℕ). fed_up_to most (progress w l (take at out)) bytes) (held_few line held few)
-        ∙ feed_held most w (take at out) q (take held line) bytes g
-        ∙ ap (λ (l : List ℕ). fed_part (progress w l (take at out)) []) (sym x.holds)
+        ∙ feed_held most w (take at out) q (take held line) bytes g.ended
+        ∙ ap (λ (l : List ℕ). fed_part (progress w l (take at out)) []) (sym g.bytes_are)
         ∙ ap (fed_up_to most (progress w (take n line') (take at out))) (sym (drop_of_length-le bytes {i = length bytes} (omega arith)));
   }
 

@@ -12,7 +12,7 @@ use Rattle.orders.proofs.CheckLaws.{fits_parts, used_some}
 use Rattle.orders.proofs.MemoryLaws.{open_length}
 use Rattle.choosers.specs.Slots.{actives}
 use Rattle.rounds.specs.declared.round.Round.{Round}
-use Rattle.rounds.specs.Rounds.{reservoir_of, State, state, after_open, open_call}
+use Rattle.rounds.specs.Rounds.{reservoir_of, State, state, open_call}
 use Rattle.rounds.specs.Ledgers.{admit, join, withdraw, plan_from}
 use Rattle.rounds.specs.Histories.{made_none, call}
 use Rattle.rounds.specs.Demand3.{Enough, Reached}

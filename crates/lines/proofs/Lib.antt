@@ -1,11 +1,7 @@
 pub mod CommandLaws
-pub mod FieldLaws
 pub mod CommandExamples
-pub mod DecimalLaws
-pub mod PutLaws
-pub mod ReadBackLaws
+pub mod ReplyLaws
 pub mod TextExamples
-pub mod HeldLaws
 pub mod StreamLaws
 pub mod LineLaws
 pub mod FeedLaws

@@ -9,15 +9,15 @@ use Rattle.std.proofs.Common.{MutBor}
 use Rattle.std.specs.Prelude.{Option, Some, None, Ok, Err}
 use Rattle.std.specs.Option.{ok_or, option_copied_mut}
 use Rattle.answers.specs.declared.Refusal.{Refusal}
-use Rattle.answers.specs.Answers.{Answer, refusal, result, map_answer}
+use Rattle.answers.specs.Answers.{Answer, refusal, result, map_answer, after}
 use Rattle.answers.proofs.AnswerLaws.{not_said}
 use Rattle.orders.specs.ReservoirCalls as Reservoir
 use Rattle.orders.specs.declared.consistent_reservoir.Exchange.{Exchange}
 use Rattle.orders.proofs.ReservoirLaws.{open_kept}
 use Rattle.choosers.specs.SlotCalls as Slots
 use Rattle.rounds.specs.declared.round.Round.{Round}
-use Rattle.rounds.specs.Rounds.{round_of, state, after, AfterOpen, after_open, open_call, admit_call, join_call, withdraw_call}
-use Rattle.rounds.specs.Plans.{sheets, AfterPlan, after_plan, plan_call, shown_plan}
+use Rattle.rounds.specs.Rounds.{round_of, state, open_call, admit_call, join_call, withdraw_call}
+use Rattle.rounds.specs.Plans.{sheets, plan_call, shown_plan}
 use Rattle.lines.specs.Replies as Replies
 use Rattle.lines.specs.Commands.{parse_call}
 use Rattle.lines.specs.Sessions.{Site, Response, on_site, site, said, replied, replaced, open_line, said_of, exchange_reply, admit_line, join_line, withdraw_line, response, World, world, plan_line, answered, respond}

@@ -17,12 +17,13 @@ use Rattle.answers.proofs.Spared.{has_within, spared_within}
 use Rattle.answers.specs.declared.Refusal.{Refusal}
 use Rattle.rounds.specs.declared.round.Round.{Round}
 use Rattle.rounds.specs.Rounds.{State, state, open_call, admit_call, join_call, withdraw_call}
-use Rattle.rounds.specs.Plans.{AfterPlan, after_plan, plan_call, shown_plan}
+use Rattle.rounds.specs.Plans.{plan_call, shown_plan}
 use Rattle.rounds.specs.Ledgers.{Sheet}
 use Rattle.rounds.specs.RefusedBy.{open_refusals, admit_refusals, join_refusals, withdraw_refusals, plan_refusals}
 use Rattle.rounds.proofs.RefusedLaws as rounds
-use Rattle.lines.specs.Lines.{fields, alike}
-use Rattle.lines.specs.Commands.{number_of, key_of, admit_word, join_word, plan_word, withdraw_word, open_word, word_alone, withdraw_form, word_and_one, open_form, word_and_three, by_fields, command_of, parse_call}
+use Rattle.fields.specs.Lines.{fields, alike}
+use Rattle.fields.specs.Numbers.{number_of, key_of}
+use Rattle.lines.specs.Commands.{admit_word, join_word, plan_word, withdraw_word, open_word, word_alone, withdraw_form, word_and_one, open_form, word_and_three, by_fields, command_of, parse_call}
 use Rattle.lines.specs.declared.commands.Command.{Command}
 use Rattle.lines.specs.declared.commands.Command.TheVariants as command
 use Rattle.lines.specs.declared.sessions.Session.{Session}
@@ -30,7 +31,8 @@ use Rattle.lines.specs.declared.sessions.Memory.{Memory}
 use Rattle.lines.specs.declared.sessions.Fed.{Fed}
 use Rattle.lines.specs.Replies.{Reply, joined, withdrawn, planned}
 use Rattle.lines.specs.Sessions.{replied, site, said, replaced, open_line, exchange_reply, admit_line, join_line, withdraw_line, World, world, Response, response, plan_line, on_site, answered, respond}
-use Rattle.lines.specs.Streams.{AfterFeed, after_feed, held_most, room_for, answer_of_feeding, world_of, after_call, feed_call, end_call, BuffersAfter}
+use Rattle.fields.specs.Cuts.{held_most}
+use Rattle.lines.specs.Streams.{AfterFeed, after_feed, room_for, answer_of_feeding, world_of, after_call, feed_call, end_call, BuffersAfter}
 use Rattle.lines.specs.RefusedBy.{parse_refusals, feed_refusals, finish_refusals, answer_of_reply, line_refusals}
 
 -- ---- parse

@@ -6,11 +6,12 @@ use mathlib.Core.List.{List, [], ◌++◌}
 use Prim.Native.Nat.{ℕ}
 use lib.ListN.{take}
 use Rattle.lists.proofs.Writing.{written_take}
-use Rattle.lines.specs.Lines.{lines_of}
+use Rattle.fields.specs.Lines.{lines_of}
 use Rattle.lines.specs.Sessions.{World, answers}
 use Rattle.lines.specs.Streams.{progress}
 use Rattle.lines.specs.Inputs.{fed, ended}
-use Rattle.lines.specs.Runs.{whole, Runs, finishes, feeds}
+use Rattle.fields.specs.Cuts.{whole}
+use Rattle.lines.specs.Runs.{Runs, finishes, feeds}
 use Rattle.lines.proofs.StreamLaws.{put_out, program}
 use Rattle.lines.proofs.PartLaws.{feed_feeds, feed_text, finish_ends}
 

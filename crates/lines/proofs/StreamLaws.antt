@@ -9,13 +9,14 @@ use lib.Dec.{eqb}
 use lib.ListN.{length, take, length-take}
 use borrow.Author.Tests.{eq-eqb, ne_eqb}
 use Rattle.lists.proofs.Tests.{by_test}
-use Rattle.lines.specs.Lines.{onto, lines_of}
+use Rattle.fields.specs.Lines.{lines_of}
+use Rattle.fields.specs.Cuts.{whole, firsts, unended, cut_lines}
+use Rattle.fields.proofs.PieceLaws.{input_lines}
 use Rattle.lines.specs.Replies.{text_of}
 use Rattle.lines.specs.Sessions.{World, respond, Response, answers}
 use Rattle.lines.specs.Streams.{Progress, progress, byte}
 use Rattle.lines.specs.Inputs.{fed, ended}
-use Rattle.lines.specs.Runs.{whole}
-use Rattle.lines.proofs.HeldLaws.{take_cut, respond_first}
+use Rattle.lines.proofs.CommandLaws.{command_first}
 
 -- ---- parts of an input
 
@@ -81,31 +82,16 @@ put_whole w h (p ∷ ps) =
 
 -- ---- lines
 
--- a line that is not empty, if there is one
-abbrev last : List ℕ → List (List ℕ)
-last [] = []
-last (b ∷ l) = (b ∷ l) ∷ []
+-- a line asks for what its first 81 bytes ask for
+pub respond_first : (w : World) (l : List ℕ) → respond w (take 81 l) ≡ respond w l
+unfolding respond
+respond_first w l = rw (command_first l)
 
--- what came of a line before, in front of the lines that follow
-abbrev after : List ℕ → List (List ℕ) → List (List ℕ)
-after p [] = last p
-after p (l ∷ ls) = (p ++ l) ∷ ls
-
-after_onto : (p : List ℕ) (b : ℕ) (ls : List (List ℕ)) → after p (onto b ls) ≡ after (p ++ (b ∷ [])) ls
-after_onto [] b [] = refl
-after_onto (x ∷ p) b [] = refl
-after_onto p b (l ∷ ls) = ap (λ (r : List ℕ). r ∷ ls) (sym (append_assoc p (b ∷ []) l))
-
-after_none : (ls : List (List ℕ)) → after [] ls ≡ ls
-after_none [] = refl
-after_none (l ∷ ls) = refl
-
--- the text of a line's answer, and those of the lines after it
-answers_first : (w : World) (t p : List ℕ) (ls : List (List ℕ))
-    → (t ++ text_of (respond w (take 81 p)).reply) ++ answers (respond w (take 81 p)).world ls ≡ t ++ answers w (p ∷ ls)
-answers_first w t p ls =
-    ap (λ (h : Response). (t ++ text_of h.reply) ++ answers h.world ls) (respond_first w p)
-    ∙ append_assoc t (text_of (respond w p).reply) (answers (respond w p).world ls)
+answers_firsts : (w : World) (ls : List (List ℕ)) → answers w (firsts ls) ≡ answers w ls
+answers_firsts w [] = refl
+answers_firsts w (l ∷ ls) =
+    ap (λ (h : Response). text_of h.reply ++ answers h.world (firsts ls)) (respond_first w l)
+    ∙ ap (λ (t : List ℕ). text_of (respond w l).reply ++ t) (answers_firsts (respond w l).world ls)
 
 pub ended_none : (s : Progress) → length s.held ≡ 0 → ended s ≡ s
 unfolding ended
@@ -115,36 +101,31 @@ pub ended_held : (s : Progress) → (length s.held ≡ 0 → ⊥) → ended s �
 unfolding ended
 ended_held s e = rw (ne_eqb (length s.held) 0 e)
 
-ends : (w : World) (p t : List ℕ) → (ended (progress w (take 81 p) t)).text ≡ t ++ answers w (last p)
+ends : (w : World) (h t : List ℕ) → (ended (progress w h t)).text ≡ t ++ answers w (unended h)
 ends w [] t = ap (λ (s : Progress). s.text) (ended_none (progress w [] t) refl) ∙ sym (append-nil t)
-ends w (x ∷ p) t =
-    ap (λ (s : Progress). s.text) (ended_held (progress w (take 81 (x ∷ p)) t) (λ z. omega arith))
-    ∙ ap (λ (s : Progress). s.text) (byte_line (progress w (take 81 (x ∷ p)) t) 10 refl)
-    ∙ sym (append-nil (t ++ text_of (respond w (take 81 (x ∷ p))).reply))
-    ∙ answers_first w t (x ∷ p) []
+ends w (x ∷ h) t =
+    ap (λ (s : Progress). s.text) (ended_held (progress w (x ∷ h) t) (λ z. omega arith) ∙ byte_line (progress w (x ∷ h) t) 10 refl)
+    ∙ ap (λ (a : List ℕ). t ++ a) (sym (append-nil (text_of (respond w (x ∷ h)).reply)))
 
--- the first bytes p of a line were fed before, of which at most 81 are held
-lines_fed : (w : World) (p t l : List ℕ) → (ended (fed (progress w (take 81 p) t) l)).text ≡ t ++ answers w (after p (lines_of l))
-lines_fed w p t [] = ends w p t
-lines_fed w p t (b ∷ l) =
+-- the bytes h of a line are held: the answers to the lines that the cuts of the rest give
+lines_fed : (w : World) (h t l : List ℕ) → (ended (fed (progress w h t) l)).text ≡ t ++ answers w (cut_lines h l)
+lines_fed w h t [] = ends w h t
+lines_fed w h t (b ∷ l) =
     by_test (eqb b 10)
     (λ e.
-    let v = (respond w (take 81 p)).world in
-    let u = t ++ text_of (respond w (take 81 p)).reply in
-    ap (λ (s : Progress). (ended (fed s l)).text) (byte_line (progress w (take 81 p) t) b e)
-    ∙ lines_fed v [] u l
-    ∙ ap (λ (ls : List (List ℕ)). u ++ answers v ls) (after_none (lines_of l))
-    ∙ answers_first w t p (lines_of l)
-    ∙ rw (e, append-nil p))
+    let r = respond w h in
+    ap (λ (s : Progress). (ended (fed s l)).text) (byte_line (progress w h t) b e)
+    ∙ lines_fed r.world [] (t ++ text_of r.reply) l
+    ∙ append_assoc t (text_of r.reply) (answers r.world (cut_lines [] l))
+    ∙ rw e)
     (λ e.
-    ap (λ (s : Progress). (ended (fed s l)).text) (byte_held (progress w (take 81 p) t) b e ∙ ap (λ (h : List ℕ). progress w h t) (take_cut 81 p (b ∷ [])))
-    ∙ lines_fed w (p ++ (b ∷ [])) t l
-    ∙ ap (λ (ls : List (List ℕ)). t ++ answers w ls) (sym (after_onto p b (lines_of l)))
+    ap (λ (s : Progress). (ended (fed s l)).text) (byte_held (progress w h t) b e)
+    ∙ lines_fed w (take 81 (h ++ (b ∷ []))) t l
     ∙ rw e)
 
 -- An input as a whole: what is put out is the text of the answers to its lines, in order.
 pub input_answers : (w : World) (l : List ℕ) → (ended (fed (progress w [] []) l)).text ≡ answers w (lines_of l)
-input_answers w l = lines_fed w [] [] l ∙ ap (answers w) (after_none (lines_of l))
+input_answers w l = lines_fed w [] [] l ∙ ap (answers w) (input_lines l) ∙ answers_firsts w (lines_of l)
 
 -- THE THEOREM. An input that comes in any parts: what is put out is the same.
 pub program : (w : World) (parts : List (List ℕ)) → put_out w [] parts ≡ answers w (lines_of (whole parts))

@@ -4,7 +4,8 @@ use mathlib.Core.Path.{◌≡◌, refl}
 use mathlib.Core.List.{[], ◌∷◌}
 use mathlib.Core.Option.{some}
 use Rattle.rounds.specs.Ledgers.{sheet}
-use Rattle.lines.specs.Replies.{opened, admitted, nothing, joined, withdrawn, planned, refused, decimal_of, tabbed, place_line, text_of}
+use Rattle.fields.specs.Printing.{decimal_of, tabbed}
+use Rattle.lines.specs.Replies.{opened, admitted, nothing, joined, withdrawn, planned, refused, place_line, text_of}
 
 --     opened
 opened_text : text_of opened ≡ 111 ∷ 112 ∷ 101 ∷ 110 ∷ 101 ∷ 100 ∷ 10 ∷ []

@@ -1,15 +1,13 @@
 -- What private functions promise of lines and texts. No public promise cites this file.
 -- Assumes nothing.
-use Rattle.std.specs.Prelude.{◌≡◌, List, ◌++◌, ℕ, ◌+◌, ◌≤◌, length, take, drop, Option, Some, None, Result, Ok, Err}
+use Rattle.std.specs.Prelude.{List, ℕ, take, Option, Some, None, Result, Ok, Err}
 use Rattle.answers.specs.Refusals.{number}
 use Rattle.answers.specs.declared.Refusal.{Refusal}
 use Rattle.orders.specs.declared.consistent_reservoir.Exchange.{Exchange}
 use Rattle.answers.specs.Answers.{Answer, refusal, result}
-use Rattle.lists.specs.Lists.{written}
 use Rattle.lines.specs.declared.commands.Command.{Command}
 use Rattle.rounds.specs.Plans.{sheets}
 use Rattle.lines.specs.Replies.{Reply, opened, admitted, nothing, joined, withdrawn, planned, refused}
-use Rattle.lines.specs.declared.texts.Text.{Text}
 use Rattle.lines.specs.declared.texts.Accepted.{Accepted}
 use Rattle.lines.specs.declared.texts.Accepted.TheVariants as accepted
 
@@ -39,23 +37,3 @@ line_of (accepted.Planned k) ls ts = planned (sheets (take k ls) (take k ts))
 abbrev pub reply_of : Result Accepted Refusal → List ℕ → List ℕ → Reply
 reply_of (Ok a) ls ts = line_of a ls ts
 reply_of (Err why) ls ts = refused (number why)
-
--- ---- a text put into a list
-
--- the text over the places from at on; next is the place after it
-pub record Put (before : List ℕ) (at : ℕ) (text after : List ℕ) (next : ℕ) : Type 0 where
-  pub within : at ≤ length before
-  pub next_is : next ≡ at + length text
-  pub bytes : after ≡ take at before ++ written text (drop at before)
-
--- so many bytes more
-abbrev pub HasRoom : Text → ℕ → Type 0
-HasRoom t n = t.len + n ≤ length t.out.now
-
--- texts in the same list, which keeps its length
-abbrev pub SameList : Text → Text → Type 0
-SameList t t' = (t'.out.ghost_name ≡ t.out.ghost_name) × (length t'.out.now ≡ length t.out.now)
-
--- a text that has grown by another
-abbrev pub Puts : Text → List ℕ → Text → Type 0
-Puts t text t' = Put t.out.now t.len text t'.out.now t'.len

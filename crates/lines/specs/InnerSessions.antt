@@ -3,13 +3,9 @@
 use Rattle.std.specs.Prelude.{◌≡◌, List, ℕ, ◌≤◌, ◌<◌, length, take, drop}
 use Rattle.lists.specs.Lists.{written}
 use Rattle.lines.specs.Sessions.{World}
-use Rattle.lines.specs.Streams.{held_most, Progress, progress, fed_part, fed_up_to}
-use Rattle.lines.specs.InnerLines.{Put}
-
--- the first m bytes of a list are these
-pub record Holds (m : ℕ) (line bytes : List ℕ) : Type 0 where
-  pub size : m ≡ length bytes
-  pub holds : take m line ≡ bytes
+use Rattle.fields.specs.Cuts.{held_most}
+use Rattle.lines.specs.Streams.{Progress, progress, fed_part, fed_up_to}
+use Rattle.fields.specs.Texts.{Put}
 
 -- Some bytes are taken, and a text is put into the list: as far as they go it is all that is fed.
 pub record Stepped (bytes : List ℕ) (w : World) (line out : List ℕ) (held at : ℕ) (w' : World) (line' out' : List ℕ) (held' taken put : ℕ) : Type 0 where

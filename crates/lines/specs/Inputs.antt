@@ -2,7 +2,8 @@
 -- Assumes nothing.
 use Rattle.std.specs.Prelude.{cond, List, [], ◌∷◌, ℕ, ◌≤◌, eqb, length}
 use Rattle.lines.specs.Sessions.{World}
-use Rattle.lines.specs.Streams.{held_most, Progress, byte, room_for}
+use Rattle.fields.specs.Cuts.{held_most}
+use Rattle.lines.specs.Streams.{Progress, byte, room_for}
 
 -- byte after byte
 abbrev pub fed : Progress → List ℕ → Progress

@@ -1,4 +1,3 @@
-pub mod Lines
 pub mod Commands
 pub mod Replies
 pub mod Sessions

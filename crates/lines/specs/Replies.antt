@@ -1,8 +1,9 @@
 -- Document 01, **The line program**: what is answered to a line, and its text.
 -- Assumes nothing.
-use Rattle.std.specs.Prelude.{cond, List, [], ◌∷◌, ◌++◌, ℕ, zero, suc, ◌+◌, ◌/◌, ◌%◌, ltb}
+use Rattle.std.specs.Prelude.{List, [], ◌∷◌, ◌++◌, ℕ, suc}
 use Rattle.std.proofs.Math.Option.{Option, none, some}
 use Rattle.rounds.specs.Ledgers.{Sheet}
+use Rattle.fields.specs.Printing.{decimal_of, tabbed, line_end}
 
 -- what is answered to a line
 pub data Reply : Type 0 where
@@ -13,24 +14,6 @@ pub data Reply : Type 0 where
   withdrawn : ℕ → Reply
   planned : List Sheet → Reply
   refused : ℕ → Reply
-
--- ---- numbers
-
--- the digits of n in front of a text, at most f of them: "without leading zeros", and 0 is one digit
-abbrev pub spell : ℕ → ℕ → List ℕ → List ℕ
-spell zero n text = text
-spell (suc f) n text = cond (ltb n 10) ((48 + n) ∷ text) (spell f (n / 10) ((48 + n % 10) ∷ text))
-
--- a number below 2^32 in decimal, which has at most ten digits
-unfoldable pub decimal_of : ℕ → List ℕ
-decimal_of n = spell 10 n []
-
--- a tab and a number
-unfoldable pub tabbed : ℕ → List ℕ
-tabbed n = (9 ∷ []) ++ decimal_of n
-
-abbrev pub line_end : List ℕ
-line_end = 10 ∷ []
 
 -- ---- answers
 

@@ -6,11 +6,6 @@ use Rattle.answers.specs.Answers.{result}
 use Rattle.lines.specs.Sessions.{World}
 use Rattle.lines.specs.Streams.{count, feed_call, end_call}
 
--- the parts of an input, one after the other
-abbrev pub whole : List (List ℕ) → List ℕ
-whole [] = []
-whole (p ∷ ps) = p ++ whole ps
-
 -- From a world and what is held of a line: the parts of the pieces that the calls take, and all that they put out. A call is lent
 -- the list with the held bytes, and any list for what it puts out; it is not refused.
 pub data Runs : World → List ℕ → List (List ℕ) → List ℕ → Type 0 where

@@ -2,9 +2,9 @@
 -- Assumes nothing.
 use Rattle.std.specs.Prelude.{List, [], ◌∷◌, ◌++◌, ℕ, Option, Some, None}
 use Rattle.std.proofs.Math.Option as maybe
-use Rattle.answers.specs.Answers.{Answer, refusal, result}
+use Rattle.answers.specs.Answers.{Answer, refusal, result, After}
 use Rattle.rounds.specs.declared.round.Round.{Round}
-use Rattle.rounds.specs.Rounds.{state, open_call, After, admit_call, join_call, withdraw_call}
+use Rattle.rounds.specs.Rounds.{state, open_call, admit_call, join_call, withdraw_call}
 use Rattle.rounds.specs.Plans.{plan_call, shown_plan}
 use Rattle.lines.specs.Commands.{command_of}
 use Rattle.lines.specs.Replies.{Reply, opened, admitted, nothing, joined, withdrawn, planned, refused, text_of}

@@ -5,6 +5,7 @@ use Rattle.answers.specs.Answers.{Answer, refusal, result}
 use Rattle.answers.specs.Refusals.{number}
 use Rattle.answers.specs.declared.Refusal.{Refusal}
 use Rattle.lists.specs.Lists.{written}
+use Rattle.fields.specs.Cuts.{held_most}
 use Rattle.lines.specs.Replies.{text_of}
 use Rattle.lines.specs.Sessions.{site, World, world, respond}
 use Rattle.lines.specs.declared.sessions.Session.{Session}
@@ -19,10 +20,6 @@ pub record Progress : Type 0 where
 
 abbrev pub progress : World → List ℕ → List ℕ → Progress
 progress w h t = record { world = w; held = h; text = t }
-
--- Of a line its first 81 bytes are held, whatever its length: that is enough to know that it has more than 80.
-abbrev pub held_most : ℕ
-held_most = 81
 
 -- a byte: a line feed ends the line, which is answered; any other is held
 unfoldable pub byte : Progress → ℕ → Progress

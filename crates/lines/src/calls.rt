@@ -1,14 +1,16 @@
 // What a line asks for is done by the round's call for it, and answered.
 ghost use Rattle.std.specs.Prelude.{◌≡◌, List, ℕ, length};
+ghost use Rattle.fields.specs.Texts.{HasRoom, SameList, Puts};
 ghost use Rattle.lines.specs.Replies.{text_of};
 ghost use Rattle.lines.specs.Sessions.{site, said, world, response, open_line, admit_line, join_line, withdraw_line, plan_line, respond};
 ghost use Rattle.lines.specs.Streams.{room_for};
-ghost use Rattle.lines.specs.InnerLines.{reply_of, HasRoom, SameList, Puts};
+ghost use Rattle.lines.specs.InnerLines.{reply_of};
 
-use crate::commands;
 use crate::commands::Command;
-use crate::texts::{Accepted, Text};
+use crate::texts::Accepted;
+use crate::{commands, texts};
 use answers::Refusal;
+use fields::texts::Text;
 use rounds::round;
 use rounds::round::Round;
 
@@ -114,5 +116,5 @@ pub(crate) fn answer(
     ensures says { Puts text.old (text_of (respond (world (site current.old list.old table.old) locations.old terminals.old (length scratch.old)) line.now).reply) text.new }
 {
     let reply = act(current, line, list, table, locations, terminals, scratch);
-    text.push_reply(reply, locations, terminals);
+    texts::push_reply(text, reply, locations, terminals);
 }

@@ -1,10 +1,11 @@
 // A line taken apart.
-ghost use Rattle.std.specs.Prelude.{◌≡◌, ◌≤◌, length};
-ghost use Rattle.answers.specs.Refusals.{answer_of, optional};
-ghost use Rattle.lines.specs.Commands.{value_of, number_of, key_of, word_alone, word_and_one, word_and_three, command_of, parse_call};
+ghost use Rattle.std.specs.Prelude.{◌≡◌};
+ghost use Rattle.answers.specs.Refusals.{answer_of};
+ghost use Rattle.lines.specs.Commands.{word_alone, word_and_one, word_and_three, command_of, parse_call};
 ghost use Rattle.lines.specs.InnerLines.{answer_of_form};
 
 use answers::Refusal;
+use fields::numbers;
 
 // What a line asks for.
 #[derive(Clone, Copy, Debug, PartialEq, Eq)]
@@ -14,42 +15,6 @@ pub enum Command {
     Join,
     Withdraw(u32),
     Plan,
-}
-
-// ---- numbers
-
-// The number that digits of a base write. By hand, since std's `parse` and `from_str_radix` take a plus sign in front.
-fn value(digits: &[u8], base: u32) -> Option<u64>
-    requires base_bound { (2 ≤ base) × (base ≤ 16) }
-    requires digits_bound { length digits.now ≤ 16 }
-    ensures { optional result ≡ value_of base 0 digits.now }
-{
-    let mut value: u64 = 0;
-    for byte in digits {
-        let digit = char::from(*byte).to_digit(base)?;
-        value = value * base as u64 + digit as u64;
-    }
-    Some(value)
-}
-
-// A number of 1 to 10 decimal digits, below 2^32.
-fn number(field: &[u8]) -> Option<u32>
-    ensures { optional result ≡ number_of field.now }
-{
-    if field.is_empty() || field.len() > 10 {
-        return None;
-    }
-    u32::try_from(value(field, 10)?).ok()
-}
-
-// A key of 16 hexadecimal digits.
-fn key(field: &[u8]) -> Option<u64>
-    ensures { optional result ≡ key_of field.now }
-{
-    if field.len() != 16 {
-        return None;
-    }
-    value(field, 16)
 }
 
 // ---- the forms, by the number of fields
@@ -71,7 +36,7 @@ fn with_one(word: &[u8], slot: &[u8]) -> Option<Command>
     if word != b"withdraw".as_slice() {
         return None;
     }
-    let slot = number(slot)?;
+    let slot = numbers::number(slot)?;
     Some(Command::Withdraw(slot))
 }
 
@@ -81,9 +46,9 @@ fn with_three(word: &[u8], a: &[u8], b: &[u8], c: &[u8]) -> Option<Command>
     if word != b"open".as_slice() {
         return None;
     }
-    let key = key(a)?;
-    let k = number(b)?;
-    let n = number(c)?;
+    let key = numbers::key(a)?;
+    let k = numbers::number(b)?;
+    let n = numbers::number(c)?;
     Some(Command::Open { key, k, n })
 }
 

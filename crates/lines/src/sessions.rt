@@ -1,19 +1,18 @@
 // A session: bytes are fed in whatever pieces they come, and the answers to the lines that they end are put into a list.
-ghost use Rattle.std.specs.Prelude.{◌≡◌, ◌==◌, [], ◌++◌, ◌≤◌, ◌<◌, ◌+◌, length, take};
-ghost use Rattle.std.specs.List.{position};
+ghost use Rattle.std.specs.Prelude.{◌≡◌, [], ◌≤◌, ◌<◌, ◌+◌, length, take};
+ghost use Rattle.fields.specs.Cuts.{held_most};
+ghost use Rattle.fields.specs.Texts.{HasRoom, SameList, Puts};
 ghost use Rattle.lines.specs.Replies.{text_of};
 ghost use Rattle.lines.specs.Sessions.{respond};
-ghost use Rattle.lines.specs.Streams.{held_most, progress, room_for, world_of, after_call, feed_call, end_call, BuffersAfter, SameLists};
-ghost use Rattle.lines.specs.InnerLines.{HasRoom, SameList, Puts};
-ghost use Rattle.lines.specs.InnerSessions.{Holds, Stepped, Took};
+ghost use Rattle.lines.specs.Streams.{progress, room_for, world_of, after_call, feed_call, end_call, BuffersAfter, SameLists};
+ghost use Rattle.lines.specs.InnerSessions.{Stepped, Took};
 
 use crate::calls;
-use crate::texts::Text;
 use answers::Refusal;
+use fields::cuts;
+use fields::cuts::{Cutting, HELD_MOST};
+use fields::texts::Text;
 use rounds::round::Round;
-
-// Of a line that has not ended its first bytes are held, so many, which is enough to know that it is too long.
-const HELD_MOST: usize = 81;
 
 // No line of a plan is longer, and no other answer.
 const PLACE_LINE: usize = 33;
@@ -33,7 +32,7 @@ pub struct Memory<'a> {
 
 // Where a session stands between two pieces: the round that an accepted open made, if there was one, and how many bytes are held of
 // a line that has not ended. The list that holds them is lent to each call. A caller may make one by hand, and the list is no part
-// of it, so that no more is held than there can be, and that the list has room, is tested by the calls, and asked for by the four
+// of it, so that no more is held than there can be, and that the list has room, is tested by the calls, and asked for by the three
 // functions that they use.
 #[derive(Clone, Copy, Debug, PartialEq, Eq)]
 pub struct Session {
@@ -46,25 +45,6 @@ pub struct Session {
 pub struct Fed {
     pub taken: usize,
     pub put: usize,
-}
-
-// Holds bytes of a line behind those that are held, as far as there is room, and answers how many are held then.
-fn keep(line: &mut [u8], held: usize, bytes: &[u8]) -> usize
-    requires { (held ≤ held_most) × (held_most ≤ length line.old) }
-    ensures upper_bound { result ≤ held_most }
-    ensures holds { Holds result line.new (take held_most (take held line.old ++ bytes.now)) }
-{
-    let count = bytes.len().min(HELD_MOST - held);
-    let size = held + count;
-    line[held..size].copy_from_slice(&bytes[..count]);
-    size
-}
-
-// Where the first line feed is.
-fn line_end(bytes: &[u8]) -> Option<usize>
-    ensures { result ≡ position (λ b. b == 10) bytes.now }
-{
-    bytes.iter().position(|byte| *byte == b'\n')
 }
 
 impl Session {
@@ -101,24 +81,6 @@ impl Session {
         );
     }
 
-    // Answers the line that bytes end, behind those that are held of it.
-    fn end_line(&mut self, bytes: &[u8], line: &mut [u8], memory: &mut Memory, text: &mut Text)
-        requires { (self.old.held ≤ held_most) × (held_most ≤ length line.old) × HasRoom text.old (room_for memory.old.locations.now) }
-        ensures held { self.new.held ≡ 0 }
-        ensures memory_lent { SameLists memory.old memory.new }
-        ensures text_lent { SameList text.old text.new }
-        ensures world_after { world_of self.new memory.new ≡ (respond (world_of self.old memory.old) (take held_most (take self.old.held line.old ++ bytes.now))).world }
-        ensures says { Puts text.old (text_of (respond (world_of self.old memory.old) (take held_most (take self.old.held line.old ++ bytes.now))).reply) text.new }
-    {
-        if self.held == 0 {
-            self.answer(bytes, memory, text);
-            return;
-        }
-        let size = keep(line, self.held, bytes);
-        self.held = 0;
-        self.answer(&line[..size], memory, text);
-    }
-
     // Takes bytes up to and with their first line feed, or all where there is none, and answers how many.
     fn take_line(
         &mut self,
@@ -132,15 +94,19 @@ impl Session {
         ensures text_lent { SameList text.old text.new }
         ensures steps { Stepped bytes.now (world_of self.old memory.old) line.old text.old.out.now self.old.held text.old.len (world_of self.new memory.new) line.new text.new.out.now self.new.held result text.new.len }
     {
-        match line_end(bytes) {
-            Some(end) => {
-                self.end_line(&bytes[..end], line, memory, text);
-                end + 1
-            }
-            None => {
-                let held = keep(line, self.held, bytes);
+        match cuts::cut(bytes, self.held, line) {
+            Cutting::Open { held } => {
                 self.held = held;
                 bytes.len()
+            }
+            Cutting::Whole { size, taken } => {
+                self.answer(&bytes[..size], memory, text);
+                taken
+            }
+            Cutting::Joined { size, taken } => {
+                self.held = 0;
+                self.answer(&line[..size], memory, text);
+                taken
             }
         }
     }

@@ -14,7 +14,7 @@ use Rattle.answers.specs.Refusals.{number}
 use Rattle.lists.proofs.Writing.{written_take}
 use Rattle.lines.specs.declared.sessions.Session.{Session}
 use Rattle.lines.specs.declared.sessions.Fed.{Fed}
-use Rattle.lines.specs.Lines.{lines_of}
+use Rattle.fields.specs.Lines.{lines_of}
 use Rattle.lines.specs.Sessions.{World, answers}
 use Rattle.lines.specs.Streams.{Progress, progress, AfterFeed, after_call, feed_call, end_call}
 use Rattle.lines.specs.Inputs.{fed, ended, Fits}

@@ -5,7 +5,7 @@
 ghost use Rattle.std.specs.Prelude.{◌≡◌, ◌≢◌, ◌≤◌, ◌<◌, List, length, take, IfOk, IfErr, OnOk, IfSome};
 ghost use Rattle.std.specs.Io.KnownBytes.{ReadConsumes, Appends, IsAtEnd};
 ghost use Rattle.std.specs.IoError.{error_kind};
-ghost use Rattle.lines.specs.Lines.{lines_of};
+ghost use Rattle.fields.specs.Lines.{lines_of};
 ghost use Rattle.lines.specs.Sessions.{answers};
 ghost use Rattle.lines.specs.Streams.{world_of};
 ghost use Rattle.lines.specs.Inputs.{Fits};

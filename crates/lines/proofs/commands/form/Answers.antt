@@ -5,7 +5,8 @@ use borrow.Author.Tests.{lt-leb}
 use lib.Dec.{eqb}
 use Rattle.lines.specs.Commands.{command_of}
 use Rattle.lines.specs.InnerLines.{answer_of_form}
-use Rattle.lines.proofs.FieldLaws.{split_start, past_more, past_ends, past_is, past_not, command_split, command_many}
+use Rattle.fields.proofs.FieldLaws.{split_start, past_more, past_ends, past_is, past_not}
+use Rattle.lines.proofs.CommandLaws.{command_split, command_many}
 use Rattle.lines.proofs.commands.form.Goals as goal
 
 pub returns-then-line-gt80 : goal.returns-then-line-gt80

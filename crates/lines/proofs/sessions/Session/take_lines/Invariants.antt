@@ -3,7 +3,7 @@
 use mathlib.Core.List.{[]}
 use lib.ListN.{length, take}
 use Rattle.lines.specs.Streams.{progress, world_of, SameLists}
-use Rattle.lines.specs.InnerLines.{SameList}
+use Rattle.fields.specs.Texts.{SameList}
 use Rattle.lines.proofs.FeedLaws.{Going}
 use Rattle.lines.proofs.sessions.Session.take_lines.Given as goal
 

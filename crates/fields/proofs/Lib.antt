@@ -1,0 +1,9 @@
+pub mod NumberLaws
+pub mod FieldLaws
+pub mod DecimalLaws
+pub mod ReadBackLaws
+pub mod PutLaws
+pub mod CutLaws
+pub mod PieceLaws
+pub mod InputLaws
+pub mod KeyLaws

@@ -1,8 +1,0 @@
--- The loop of `lines::commands::value`.
--- Assumes nothing.
-use Rattle.std.proofs.Common.{◌≡◌, ◌<◌, ◌^◌, drop}
-use Rattle.lines.specs.Commands.{value_of}
-use Rattle.lines.proofs.commands.value.Given as goal
-
-abbrev pub invariant-loop-byte : goal.invariant-loop-byte
-invariant-loop-byte l = (l.value < 16 ^ l.byte-index) × (value_of l.base 0 l.digits ≡ value_of l.base l.value (drop l.byte-index l.digits))

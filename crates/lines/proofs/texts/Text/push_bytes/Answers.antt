@@ -1,8 +1,0 @@
--- `lines::texts::Text::push_bytes` meets its contract.
--- Assumes nothing.
-use native.Mathlib.Omega.{arith}
-use Rattle.lines.proofs.PutLaws.{put_places}
-use Rattle.lines.proofs.texts.Text.push_bytes.Goals as goal
-
-pub returns-clause-puts : goal.returns-clause-puts
-returns-clause-puts c = put_places _ _ _ _ _ _ c.requires (omega arith) (omega arith) c.copy_from_slice.ensures.after

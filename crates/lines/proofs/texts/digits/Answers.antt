@@ -1,7 +1,0 @@
--- `lines::texts::digits` meets its contract.
--- Assumes nothing.
-use Rattle.lines.proofs.DecimalLaws.{length_decimal_log}
-use Rattle.lines.proofs.texts.digits.Goals as goal
-
-pub returns-clause-count : goal.returns-clause-count
-returns-clause-count c = let log = c.ilog10.ensures in length_decimal_log _ _ _ c.max.ensures log.power_le log.next_power_gt log.bound
