@@ -4,15 +4,15 @@ use mathlib.Core.Path.{◌≡◌, refl}
 use mathlib.Core.List.{[], ◌∷◌}
 use mathlib.Core.Option.{none, some}
 use Prim.Native.Nat.{ℕ}
-use Rattle.answers.specs.Answers.{result, refusal}
+use Rattle.answers.specs.Answers.{result, refusal, after, refused}
 use Rattle.answers.specs.Steps.{answers}
 use Rattle.lists.specs.Lists.{below, not_below, every, standing, last, written}
 use Rattle.words.specs.Words.{rotate_right}
 use Rattle.layers.specs.Layer.{start, round_function, next_key, round, rounds, over, layer, top_bits}
 use Rattle.orders.specs.Orders.{log2, layer_of, none_counted, output, counted, zero_top, whole, P}
-use Rattle.orders.specs.OrderCalls.{order_of, step, within, next_call}
+use Rattle.orders.specs.OrderCalls.{order_of, within, next_call}
 use Rattle.orders.specs.Reservoirs.{counts, opening, incoming, up_to_zeros, grown, wider}
-use Rattle.orders.specs.ReservoirCalls.{sample, fitting, after_open, reservoir_of, open_call, after, refused, exchange_by, exchange, admit_call}
+use Rattle.orders.specs.ReservoirCalls.{sample, fitting, reservoir_of, open_call, exchange_by, exchange, admit_call, reservoir_state}
 
 abbrev key : ℕ
 key = 0x9E37_79B9_7F4A_7C15
@@ -37,25 +37,25 @@ unfolding next_call within every layer_of log2 below output counted zero_top top
 counter_met = refl
 
 -- key 0, k 2, n 4: an admit that looks through 8 outputs of layer 1 and ends with 5 places
-pub opened_2_of_4 : open_call 2 4 0 (9 ∷ 9 ∷ 9 ∷ 9 ∷ 9 ∷ []) ≡ after_open (result (reservoir_of 0 2 4 0 2)) (0 ∷ 3 ∷ 9 ∷ 9 ∷ 9 ∷ [])
+pub opened_2_of_4 : open_call 2 4 0 (9 ∷ 9 ∷ 9 ∷ 9 ∷ 9 ∷ []) ≡ after (result (reservoir_of 0 2 4 0 2)) (0 ∷ 3 ∷ 9 ∷ 9 ∷ 9 ∷ [])
 unfolding open_call opening written P whole layer_of log2 counts below output counted zero_top top_bits layer start rounds round round_function next_key over rotate_right
 opened_2_of_4 = refl
 
-pub admitted_by_growth : admit_call (reservoir_of 0 2 4 0 2) (0 ∷ 3 ∷ 9 ∷ 9 ∷ 9 ∷ []) ≡ after (result (some (4, 3))) (reservoir_of 0 2 5 1 5) (13 ∷ 12 ∷ 11 ∷ 0 ∷ 4 ∷ [])
+pub admitted_by_growth : admit_call (reservoir_of 0 2 4 0 2) (0 ∷ 3 ∷ 9 ∷ 9 ∷ 9 ∷ []) ≡ after (result (some (4, 3))) (reservoir_state (reservoir_of 0 2 5 1 5) (13 ∷ 12 ∷ 11 ∷ 0 ∷ 4 ∷ []))
 unfolding admit_call fitting sample every last exchange exchange_by incoming not_below standing written grown up_to_zeros wider counts below zero_top top_bits layer start rounds round round_function next_key over rotate_right
 admitted_by_growth = refl
 
 -- with 4 places it is refused, and nothing is changed
-pub too_short : admit_call (reservoir_of 0 2 4 0 2) (0 ∷ 3 ∷ 9 ∷ 9 ∷ []) ≡ refused 4 (reservoir_of 0 2 4 0 2) (0 ∷ 3 ∷ 9 ∷ 9 ∷ [])
+pub too_short : admit_call (reservoir_of 0 2 4 0 2) (0 ∷ 3 ∷ 9 ∷ 9 ∷ []) ≡ refused 4 (reservoir_state (reservoir_of 0 2 4 0 2) (0 ∷ 3 ∷ 9 ∷ 9 ∷ []))
 unfolding admit_call fitting sample every last exchange exchange_by incoming not_below standing written grown up_to_zeros wider counts below zero_top top_bits layer start rounds round round_function next_key over rotate_right
 too_short = refl
 
 -- key 3, k 1, n 1: layer 1 is passed over
-pub layer_skipped : admit_call (reservoir_of 3 1 1 0 1) (0 ∷ 9 ∷ []) ≡ after (result (some (19, 0))) (reservoir_of 3 1 20 2 2) (47 ∷ 19 ∷ [])
+pub layer_skipped : admit_call (reservoir_of 3 1 1 0 1) (0 ∷ 9 ∷ []) ≡ after (result (some (19, 0))) (reservoir_state (reservoir_of 3 1 20 2 2) (47 ∷ 19 ∷ []))
 unfolding admit_call fitting sample every last exchange exchange_by incoming not_below standing written grown up_to_zeros wider counts below zero_top top_bits layer start rounds round round_function next_key over rotate_right
 layer_skipped = refl
 
 -- a record that no open reached: 5 stands twice
-pub twice_listed : admit_call (reservoir_of 0 1 2 1 3) (5 ∷ 5 ∷ 1 ∷ []) ≡ after (result (some (5, 1))) (reservoir_of 0 1 6 1 2) (5 ∷ 5 ∷ 1 ∷ [])
+pub twice_listed : admit_call (reservoir_of 0 1 2 1 3) (5 ∷ 5 ∷ 1 ∷ []) ≡ after (result (some (5, 1))) (reservoir_state (reservoir_of 0 1 6 1 2) (5 ∷ 5 ∷ 1 ∷ []))
 unfolding admit_call fitting sample every last exchange exchange_by incoming not_below standing written counts below
 twice_listed = refl

@@ -6,7 +6,7 @@ use native.Mathlib.Omega.{arith}
 use mathlib.Core.List.{List, [], ◌∷◌}
 use mathlib.Core.Option.{some}
 use Prim.Native.Nat.{ℕ}
-use Rattle.answers.specs.Answers.{Answer, result, refusal}
+use Rattle.answers.specs.Answers.{Answer, result, refusal, after}
 use Rattle.lists.specs.Lists.{below, not_below, same, has, every, standing, last, other, written, lacked}
 use Rattle.words.specs.Words.{mix, wrapping_mul, rotate_right}
 use Rattle.layers.specs.Layer.{start, round_function, next_key, round, rounds, over, layer, top_bits}
@@ -23,9 +23,9 @@ use Rattle.std.proofs.Math.Path.{subst₂}
 use Rattle.answers.specs.declared.Refusal.TheVariants.{SlotNotActive}
 use Rattle.rounds.specs.Locations.{state_of, slot_of}
 use Rattle.rounds.specs.declared.round.Round.{Round}
-use Rattle.rounds.specs.Rounds.{State, state, fitting, open_call, after_open, admit_call, join_call, withdraw_call}
+use Rattle.rounds.specs.Rounds.{State, state, fitting, open_call, admit_call, join_call, withdraw_call}
 use Rattle.rounds.specs.Ledgers.{Call, admit, join, withdraw, ledger, first_ledger, free_slot, accept, sheet, plan_from, ledger_plan, fed_all}
-use Rattle.rounds.specs.Plans.{terminal_of, plan_call, after_plan, shown_plan}
+use Rattle.rounds.specs.Plans.{terminal_of, plan_call, shown_plan, plan_lists}
 use Rattle.rounds.specs.Histories.{Opens, AllMade, made_none, made_next, admit_left, join_left, join_returned, withdraw_returned, refusals, call, after_all, all_said}
 use Rattle.rounds.specs.Demand3.{Reached, PlanOf}
 use Rattle.rounds.proofs.FormLaws.{calls_made}
@@ -41,7 +41,7 @@ record_of n j total = record { master_key = key; k = 2; n = n; j_max = j; used =
 abbrev begin : State
 begin = state (record_of 3 0 0) (0 ∷ 1 ∷ 77 ∷ 77 ∷ 77 ∷ 77 ∷ 77 ∷ 77 ∷ []) (9 ∷ 8 ∷ 7 ∷ [])
 
-opened : open_call key 2 3 (77 ∷ 77 ∷ 77 ∷ 77 ∷ 77 ∷ 77 ∷ 77 ∷ 77 ∷ []) ≡ after_open (result begin.round) begin.list
+opened : open_call key 2 3 (77 ∷ 77 ∷ 77 ∷ 77 ∷ 77 ∷ 77 ∷ 77 ∷ 77 ∷ []) ≡ after (result begin.round) begin.list
 unfolding open_call Reservoir.open_call opening written P whole layer_of log2 counts below output counted zero_top top_bits layer start rounds round round_function next_key over rotate_right
 opened = refl
 
@@ -96,12 +96,12 @@ reached = record {
 }
 
 -- its plan, over the first two places of lists of three: location 9 to terminal 0, 13 to terminal 1
-pub planned : plan_call end (5 ∷ 5 ∷ 5 ∷ []) (6 ∷ 6 ∷ 6 ∷ []) 3 ≡ after_plan (result tt) (9 ∷ 13 ∷ 5 ∷ []) (0 ∷ 1 ∷ 6 ∷ [])
+pub planned : plan_call end (5 ∷ 5 ∷ 5 ∷ []) (6 ∷ 6 ∷ 6 ∷ []) 3 ≡ after (result tt) (plan_lists (9 ∷ 13 ∷ 5 ∷ []) (0 ∷ 1 ∷ 6 ∷ []))
 unfolding plan_call terminal_of fitting Reservoir.fitting Reservoir.sample Slots.fitting every last written counts below actives active holder state_of Q lacked has same S largest_g g prev_number prev hashes buckets bucket is_set bucket_hashes bucket_draws draws draw feed numbers later_numbers mix wrapping_mul
 planned = refl
 
 -- the plan of the round as opened: 11
-pub none_active : plan_call begin (5 ∷ 5 ∷ []) (6 ∷ 6 ∷ []) 3 ≡ after_plan (refusal 11) (5 ∷ 5 ∷ []) (6 ∷ 6 ∷ [])
+pub none_active : plan_call begin (5 ∷ 5 ∷ []) (6 ∷ 6 ∷ []) 3 ≡ after (refusal 11) (plan_lists (5 ∷ 5 ∷ []) (6 ∷ 6 ∷ []))
 unfolding plan_call fitting Reservoir.fitting Reservoir.sample Slots.fitting every last counts below actives active
 none_active = refl
 

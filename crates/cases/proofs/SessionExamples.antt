@@ -21,7 +21,7 @@ use Rattle.fields.specs.Lines.{lines_of}
 use Rattle.fields.specs.Numbers.{within, digit_of, number_of, key_of}
 use Rattle.fields.specs.Printing.{decimal_of, tabbed}
 use Rattle.lines.specs.Commands.{word_alone, word_and_one, word_and_three, command_of}
-use Rattle.lines.specs.Replies.{place_line, text_of}
+use Rattle.lines.specs.Replies.{place_line, reply_text, text_of}
 use Rattle.lines.specs.Sessions.{World, world, site, open_line, join_line, withdraw_line, plan_line, answered, respond, answers}
 use Rattle.std.specs.Prelude.{None}
 
@@ -50,5 +50,5 @@ printed =
     ∷ 114 ∷ 101 ∷ 102 ∷ 117 ∷ 115 ∷ 101 ∷ 100 ∷ 9 ∷ 49 ∷ 49 ∷ 10 ∷ []
 
 pub document : answers memory (lines_of typed) ≡ printed
-unfolding respond answered open_line join_line withdraw_line plan_line command_of word_alone word_and_one word_and_three number_of key_of digit_of within text_of place_line tabbed decimal_of open_call join_call withdraw_call plan_call shown_plan terminal_of fitting Reservoir.open_call Reservoir.fitting Reservoir.sample Slots.fitting Slots.add_call Slots.remove_call opening written P whole layer_of log2 counts below output counted zero_top top_bits layer start rounds round round_function next_key over rotate_right every last actives active vacant deleted holder state_of Q lacked has same S largest_g g prev_number prev hashes buckets bucket is_set bucket_hashes bucket_draws draws draw feed numbers later_numbers mix wrapping_mul
+unfolding respond answered open_line join_line withdraw_line plan_line command_of word_alone word_and_one word_and_three number_of key_of digit_of within text_of reply_text place_line tabbed decimal_of open_call join_call withdraw_call plan_call shown_plan terminal_of fitting Reservoir.open_call Reservoir.fitting Reservoir.sample Slots.fitting Slots.add_call Slots.remove_call opening written P whole layer_of log2 counts below output counted zero_top top_bits layer start rounds round round_function next_key over rotate_right every last actives active vacant deleted holder state_of Q lacked has same S largest_g g prev_number prev hashes buckets bucket is_set bucket_hashes bucket_draws draws draw feed numbers later_numbers mix wrapping_mul
 document = refl

@@ -9,12 +9,12 @@ use borrow.Author.Tests.{le-leb, lt-leb, lt-ltb, le-ltb, ne_eqb}
 use lib.Dec.{eqb}
 use lib.ListN.{length, take, drop, get_or, length-append, length-take, length-drop, drop_of_length-le}
 use lib.Seq.{take_at, drop-drop, length-take-le, drop-cons}
-use Rattle.answers.specs.Answers.{refusal, result}
+use Rattle.answers.specs.Answers.{refusal, result, After, after}
 use Rattle.lists.specs.Lists.{written}
 use Rattle.lists.proofs.Tests.{by_test}
-use Rattle.lines.specs.Replies.{text_of}
-use Rattle.lines.specs.Sessions.{World, Response, respond}
-use Rattle.lines.specs.Streams.{Progress, progress, byte, fed_part, fed_up_to, room_for, count, after_feed, feed_call, end_call}
+use Rattle.lines.specs.Replies.{text_of, Reply}
+use Rattle.lines.specs.Sessions.{World, respond}
+use Rattle.lines.specs.Streams.{Progress, progress, byte, fed_part, fed_up_to, room_for, count, feed_call, end_call, feed_memory}
 use Rattle.fields.specs.Texts.{Put}
 use Rattle.lines.specs.InnerSessions.{Stepped, Took}
 use Rattle.fields.specs.Cuts.{end_of}
@@ -26,8 +26,8 @@ use Rattle.lines.proofs.StreamLaws.{byte_line, byte_held}
 -- ---- a line's answer
 
 -- what a line leaves and what it puts out
-abbrev pub Hears : Response → World → List ℕ → ℕ → List ℕ → ℕ → Type 0
-Hears h w out at out' put = (w ≡ h.world) × Put out at (text_of h.reply) out' put
+abbrev pub Hears : After World Reply → World → List ℕ → ℕ → List ℕ → ℕ → Type 0
+Hears h w out at out' put = (w ≡ h.left) × Put out at (text_of h.answer) out' put
 
 -- ---- bytes up to the first line feed
 
@@ -38,7 +38,7 @@ module _ (most : ℕ) (w : World) (t : List ℕ) (m : length t ≤ most) where
   -- the line that a line feed ends
   pub feed_line : (h l : List ℕ) → end_of l < length l
       → fed_up_to most (progress w (take 81 h) t) l
-      ≡ fed_up_to most (progress (respond w (take 81 (h ++ take (end_of l) l))).world [] (t ++ text_of (respond w (take 81 (h ++ take (end_of l) l))).reply)) (drop (suc (end_of l)) l)
+      ≡ fed_up_to most (progress (respond w (take 81 (h ++ take (end_of l) l))).left [] (t ++ text_of (respond w (take 81 (h ++ take (end_of l) l))).answer)) (drop (suc (end_of l)) l)
   feed_line h [] p = absurd (omega arith)
   feed_line h (b ∷ l) p =
       by_test (eqb b 10)
@@ -86,16 +86,16 @@ module _ (bytes : List ℕ) (w : World) (line out : List ℕ) (held at : ℕ) (f
         few = omega arith;
         some = omega (arith, g.taken_is);
         inside = omega (arith, g.taken_is, g.inside);
-        text = text_of a.reply;
+        text = text_of a.answer;
         puts = x.1;
         is = λ most m.
             let n : length (take at out) ≤ most = omega (arith, length-take at out) in
-            let answered : Response → Progress = λ z. progress z.world [] (take at out ++ text_of z.reply) in
+            let answered : After World Reply → Progress = λ z. progress z.left [] (take at out ++ text_of z.answer) in
             ap (λ (l : List ℕ). fed_up_to most (progress w l (take at out)) bytes) (held_few line held few)
             ∙ feed_line most w (take at out) n (take held line) bytes g.inside
             ∙ ap (λ (l : List ℕ). fed_up_to most (answered (respond w l)) (drop (suc (end_of bytes)) bytes)) (sym g.bytes_are)
             ∙ ap (λ (i : ℕ). fed_up_to most (answered a) (drop i bytes)) (sym g.taken_is)
-            ∙ ap (λ (l : List ℕ). fed_up_to most (progress a.world [] l) (drop taken bytes)) (sym (put_take x.1))
+            ∙ ap (λ (l : List ℕ). fed_up_to most (progress a.left [] l) (drop taken bytes)) (sym (put_take x.1))
             ∙ ap (λ (v : World). fed_up_to most (progress v [] (take put out')) (drop taken bytes)) (sym x.0);
       }
 
@@ -185,27 +185,27 @@ module _ (most : ℕ) (start : Progress) (piece before : List ℕ) (w : World) (
 -- ---- the calls
 
 module _ (w : World) (line piece out : List ℕ) (held : ℕ) where
-  pub feed_many : 81 < held → after_feed (refusal 12) w (take held line) held out ≡ feed_call w line held piece out
+  pub feed_many : 81 < held → after (refusal 12) (feed_memory w (take held line) held out) ≡ feed_call w line held piece out
   unfolding feed_call
   feed_many h = rw (lt-ltb 81 held h)
 
-  pub feed_past : length line < held → after_feed (refusal 12) w (take held line) held out ≡ feed_call w line held piece out
+  pub feed_past : length line < held → after (refusal 12) (feed_memory w (take held line) held out) ≡ feed_call w line held piece out
   unfolding feed_call
   feed_past h = rw (lt-ltb (length line) held h, or-true)
 
   module _ (few : held ≤ 81) (within : held ≤ length line) where
-    pub feed_short : length line < 81 → after_feed (refusal 4) w (take held line) held out ≡ feed_call w line held piece out
+    pub feed_short : length line < 81 → after (refusal 4) (feed_memory w (take held line) held out) ≡ feed_call w line held piece out
     unfolding feed_call
     feed_short h = rw (le-ltb 81 held few, le-ltb (length line) held within, lt-ltb (length line) 81 h)
 
-    pub feed_close : length out < room_for w.locations → after_feed (refusal 4) w (take held line) held out ≡ feed_call w line held piece out
+    pub feed_close : length out < room_for w.locations → after (refusal 4) (feed_memory w (take held line) held out) ≡ feed_call w line held piece out
     unfolding feed_call
     feed_close h = rw (le-ltb 81 held few, le-ltb (length line) held within, lt-ltb (length out) (room_for w.locations) h, or-true)
 
     pub feed_took : (most : ℕ) (w' : World) (line' out' : List ℕ) (held' taken put : ℕ) → most ≡ length out - room_for w.locations
         → 81 ≤ length line → room_for w.locations ≤ length out → length line' ≡ length line
         → Took most (progress w (take held line) []) piece out w' line' out' held' taken put
-        → after_feed (result (count taken put)) w' (take held' line') held' out' ≡ feed_call w line held piece out
+        → after (result (count taken put)) (feed_memory w' (take held' line') held' out') ≡ feed_call w line held piece out
     unfolding feed_call
     feed_took most w' line' out' held' taken put m l r k t =
         let a : length piece - length (drop taken piece) ≡ taken = omega (arith, t.inside, length-drop taken piece) in
@@ -227,7 +227,7 @@ module _ (w : World) (line piece out : List ℕ) (held : ℕ) where
 -- ---- the end
 
 module _ (w : World) (line out : List ℕ) (held : ℕ) where
-  pub end_bare : held ≡ 0 → after_feed (result (count 0 0)) w (take held line) held out ≡ end_call w line held out
+  pub end_bare : held ≡ 0 → after (result (count 0 0)) (feed_memory w (take held line) held out) ≡ end_call w line held out
   unfolding end_call
   end_bare e = rw e
 

@@ -6,7 +6,7 @@ use mathlib.Core.List.{List, [], ◌∷◌}
 use Prim.Native.Nat.{ℕ, ◌≤◌}
 use native.Mathlib.Omega.{arith}
 use lib.ListN.{length}
-use Rattle.answers.specs.Answers.{Answer, refusal, result}
+use Rattle.answers.specs.Answers.{Answer, refusal, result, after, map_answer}
 use Rattle.orders.proofs.ReservoirLaws.{fitting_kept}
 use Rattle.orders.proofs.CheckLaws.{fits_parts, used_some}
 use Rattle.orders.proofs.MemoryLaws.{open_length}
@@ -23,7 +23,7 @@ use Rattle.rounds.proofs.ReplayLaws.{plan_lengths}
 use Rattle.rounds.proofs.MadeLaws.{reached_kept, reached_call}
 use Rattle.lines.specs.Commands.{command_of, plan_word, word_alone}
 use Rattle.lines.specs.Replies as Replies
-use Rattle.lines.specs.Sessions.{Site, site, replied, replaced, open_line, admit_line, join_line, withdraw_line, plan_line, World, world, answered, respond, after_lines}
+use Rattle.lines.specs.Sessions.{Site, site, replaced, open_line, admit_line, join_line, withdraw_line, plan_line, World, world, answered, respond, after_lines}
 use Rattle.lines.specs.declared.commands.Command.{Command}
 use Rattle.lines.specs.declared.commands.Command.TheVariants as command
 use Rattle.lines.specs.Plans.{Reaches, SiteReached, Roomy}
@@ -31,7 +31,7 @@ use Rattle.std.specs.Prelude.{Option, Some, None}
 
 -- ---- every round that lines lead to is reached by calls from an accepted open
 
-open_reaches : (key k n : ℕ) (s : Site) → SiteReached s → (o : Answer Round) (l : List ℕ) → open_call key k n s.list ≡ after_open o l → SiteReached (replaced s o l).site
+open_reaches : (key k n : ℕ) (s : Site) → SiteReached s → (o : Answer Round) (l : List ℕ) → open_call key k n s.list ≡ after o l → SiteReached (replaced s o l).left
 open_reaches key k n s h (refusal w) l e = h
 open_reaches key k n s h (result r) l e =
     record {
@@ -46,29 +46,29 @@ open_reaches key k n s h (result r) l e =
     }
 
 module _ (l t : List ℕ) where
-  admit_reaches : (c : Option Round) → Reaches c l t → SiteReached (admit_line (site c l t)).site
+  admit_reaches : (c : Option Round) → Reaches c l t → SiteReached (admit_line (site c l t)).left
   unfolding admit_line call
   admit_reaches None h = tt
   admit_reaches (Some r) h = reached_call (state r l t) h admit
 
-  join_reaches : (c : Option Round) → Reaches c l t → SiteReached (join_line (site c l t)).site
+  join_reaches : (c : Option Round) → Reaches c l t → SiteReached (join_line (site c l t)).left
   unfolding join_line call
   join_reaches None h = tt
   join_reaches (Some r) h = reached_call (state r l t) h join
 
-  withdraw_reaches : (x : ℕ) (c : Option Round) → Reaches c l t → SiteReached (withdraw_line x (site c l t)).site
+  withdraw_reaches : (x : ℕ) (c : Option Round) → Reaches c l t → SiteReached (withdraw_line x (site c l t)).left
   unfolding withdraw_line call
   withdraw_reaches x None h = tt
   withdraw_reaches x (Some r) h = reached_call (state r l t) h (withdraw x)
 
-plan_site : (w : World) (c : Option Round) → w.site.current ≡ c → (plan_line w).world.site ≡ w.site
+plan_site : (w : World) (c : Option Round) → w.site.current ≡ c → (plan_line w).left.site ≡ w.site
 unfolding plan_line
 plan_site w None e = rw e
 plan_site w (Some r) e = rw e
 
-answered_reaches : (w : World) (c : Answer Command) → SiteReached w.site → SiteReached (answered w c).world.site
+answered_reaches : (w : World) (c : Answer Command) → SiteReached w.site → SiteReached (answered w c).left.site
 unfolding answered open_line
-answered_reaches w (result (command.Open key k n)) h = open_reaches key k n w.site h (open_call key k n w.site.list).answer (open_call key k n w.site.list).list refl
+answered_reaches w (result (command.Open key k n)) h = open_reaches key k n w.site h (open_call key k n w.site.list).answer (open_call key k n w.site.list).left refl
 answered_reaches w (result command.Admit) h = admit_reaches w.site.list w.site.table w.site.current h
 answered_reaches w (result command.Join) h = join_reaches w.site.list w.site.table w.site.current h
 answered_reaches w (result (command.Withdraw x)) h = withdraw_reaches w.site.list w.site.table x w.site.current h
@@ -78,18 +78,18 @@ answered_reaches w (refusal c) h = h
 pub lines_reach : (ls : List (List ℕ)) (w : World) → SiteReached w.site → SiteReached (after_lines w ls).site
 unfolding respond
 lines_reach [] w h = h
-lines_reach (l ∷ ls) w h = lines_reach ls (respond w l).world (answered_reaches w (command_of l) h)
+lines_reach (l ∷ ls) w h = lines_reach ls (respond w l).left (answered_reaches w (command_of l) h)
 
 -- ---- the plan
 
 -- the line `plan` where a round stands that is reached so, with lists and scratch long enough
 plan_by_lem : (w : World) (r : Round) → w.site.current ≡ Some r → Reached (state r w.site.list w.site.table)
     → Enough r.k (length w.site.table) w.locations w.terminals w.places
-    → (respond w plan_word).reply ≡ replied Replies.planned (plan_from r.master_key r.k r.n (actives w.site.table r.total))
+    → (respond w plan_word).answer ≡ map_answer Replies.planned (plan_from r.master_key r.k r.n (actives w.site.table r.total))
 unfolding respond command_of word_alone answered plan_line
 plan_by_lem w r e h enough =
     let s = state r w.site.list w.site.table in
-    rw e (ap (replied Replies.planned) (own_plan s (reached_kept s h) w.locations w.terminals w.places enough))
+    rw e (ap (map_answer Replies.planned) (own_plan s (reached_kept s h) w.locations w.terminals w.places enough))
 
 -- from no round, after any lines: a round that is open then is reached so
 begins : (w : World) → w.site.current ≡ None → SiteReached w.site
@@ -104,8 +104,8 @@ reached_after w none ls r e =
 -- THE THEOREM. From no round, after any lines: where a round is open, `plan` prints the ledger's plan.
 pub plan_ledger : (w : World) → w.site.current ≡ None → (ls : List (List ℕ)) (r : Round) → (after_lines w ls).site.current ≡ Some r
     → Enough r.k (length (after_lines w ls).site.table) (after_lines w ls).locations (after_lines w ls).terminals (after_lines w ls).places
-    → (respond (after_lines w ls) plan_word).reply
-    ≡ replied Replies.planned (plan_from r.master_key r.k r.n (actives (after_lines w ls).site.table r.total))
+    → (respond (after_lines w ls) plan_word).answer
+    ≡ map_answer Replies.planned (plan_from r.master_key r.k r.n (actives (after_lines w ls).site.table r.total))
 plan_ledger w none ls r e enough = plan_by_lem (after_lines w ls) r e (reached_after w none ls r e) enough
 
 -- ---- memory like the program's: lines keep all lengths, so that what is long enough once is so after them
@@ -132,31 +132,31 @@ AsLong s s' = (length s.list ≡ length s'.list) × (length s.table ≡ length s
 site_lengths : (w : World) (s : Site) → AsLong s w.site → lengths (world s w.locations w.terminals w.places) ≡ lengths w
 site_lengths w s e = λ i. lengths_by (e.0 i) (e.1 i) (length w.locations) (length w.terminals) w.places
 
-replaced_lengths : (s : Site) (o : Answer Round) (l : List ℕ) → length l ≡ length s.list → AsLong (replaced s o l).site s
+replaced_lengths : (s : Site) (o : Answer Round) (l : List ℕ) → length l ≡ length s.list → AsLong (replaced s o l).left s
 replaced_lengths s (refusal w) l e = (refl, refl)
 replaced_lengths s (result r) l e = (e, refl)
 
-open_lengths : (key k n : ℕ) (s : Site) → AsLong (open_line key k n s).site s
+open_lengths : (key k n : ℕ) (s : Site) → AsLong (open_line key k n s).left s
 unfolding open_line open_call
-open_lengths key k n s = replaced_lengths s (open_call key k n s.list).answer (open_call key k n s.list).list (open_length k n key s.list)
+open_lengths key k n s = replaced_lengths s (open_call key k n s.list).answer (open_call key k n s.list).left (open_length k n key s.list)
 
 module _ (l t : List ℕ) where
-  admit_lengths : (c : Option Round) → AsLong (admit_line (site c l t)).site (site c l t)
+  admit_lengths : (c : Option Round) → AsLong (admit_line (site c l t)).left (site c l t)
   unfolding admit_line call
   admit_lengths None = (refl, refl)
   admit_lengths (Some r) = (step_length (state r l t) admit, step_bytes (state r l t) admit)
 
-  join_lengths : (c : Option Round) → AsLong (join_line (site c l t)).site (site c l t)
+  join_lengths : (c : Option Round) → AsLong (join_line (site c l t)).left (site c l t)
   unfolding join_line call
   join_lengths None = (refl, refl)
   join_lengths (Some r) = (step_length (state r l t) join, step_bytes (state r l t) join)
 
-  withdraw_lengths : (x : ℕ) (c : Option Round) → AsLong (withdraw_line x (site c l t)).site (site c l t)
+  withdraw_lengths : (x : ℕ) (c : Option Round) → AsLong (withdraw_line x (site c l t)).left (site c l t)
   unfolding withdraw_line call
   withdraw_lengths x None = (refl, refl)
   withdraw_lengths x (Some r) = (step_length (state r l t) (withdraw x), step_bytes (state r l t) (withdraw x))
 
-plan_line_lengths : (w : World) (c : Option Round) → w.site.current ≡ c → Reaches c w.site.list w.site.table → lengths (plan_line w).world ≡ lengths w
+plan_line_lengths : (w : World) (c : Option Round) → w.site.current ≡ c → Reaches c w.site.list w.site.table → lengths (plan_line w).left ≡ lengths w
 unfolding plan_line
 plan_line_lengths w None e h = rw e
 plan_line_lengths w (Some r) e h =
@@ -164,19 +164,19 @@ plan_line_lengths w (Some r) e h =
     let p = plan_lengths s (reached_kept s h) w.locations w.terminals w.places in
     rw e (λ i. lengths_by (length w.site.list) (length w.site.table) (p.0 i) (p.1 i) w.places)
 
-answered_lengths : (w : World) (c : Answer Command) → SiteReached w.site → lengths (answered w c).world ≡ lengths w
+answered_lengths : (w : World) (c : Answer Command) → SiteReached w.site → lengths (answered w c).left ≡ lengths w
 unfolding answered
-answered_lengths w (result (command.Open key k n)) h = site_lengths w (open_line key k n w.site).site (open_lengths key k n w.site)
-answered_lengths w (result command.Admit) h = site_lengths w (admit_line w.site).site (admit_lengths w.site.list w.site.table w.site.current)
-answered_lengths w (result command.Join) h = site_lengths w (join_line w.site).site (join_lengths w.site.list w.site.table w.site.current)
-answered_lengths w (result (command.Withdraw x)) h = site_lengths w (withdraw_line x w.site).site (withdraw_lengths w.site.list w.site.table x w.site.current)
+answered_lengths w (result (command.Open key k n)) h = site_lengths w (open_line key k n w.site).left (open_lengths key k n w.site)
+answered_lengths w (result command.Admit) h = site_lengths w (admit_line w.site).left (admit_lengths w.site.list w.site.table w.site.current)
+answered_lengths w (result command.Join) h = site_lengths w (join_line w.site).left (join_lengths w.site.list w.site.table w.site.current)
+answered_lengths w (result (command.Withdraw x)) h = site_lengths w (withdraw_line x w.site).left (withdraw_lengths w.site.list w.site.table x w.site.current)
 answered_lengths w (result command.Plan) h = plan_line_lengths w w.site.current refl h
 answered_lengths w (refusal c) h = refl
 
 lines_lengths : (ls : List (List ℕ)) (w : World) → SiteReached w.site → lengths (after_lines w ls) ≡ lengths w
 unfolding respond
 lines_lengths [] w h = refl
-lines_lengths (l ∷ ls) w h = lines_lengths ls (respond w l).world (answered_reaches w (command_of l) h) ∙ answered_lengths w (command_of l) h
+lines_lengths (l ∷ ls) w h = lines_lengths ls (respond w l).left (answered_reaches w (command_of l) h) ∙ answered_lengths w (command_of l) h
 
 -- a round so reached has its k numbers in the list
 k_within : (s : State) → Kept s → s.round.k ≤ length s.list
@@ -202,8 +202,8 @@ roomy_same w v e room =
 
 -- With such memory nothing is asked of the round: from no round, after any lines, `plan` prints the ledger's plan.
 pub plan_ledger_lent : (w : World) → w.site.current ≡ None → Roomy w → (ls : List (List ℕ)) (r : Round) → (after_lines w ls).site.current ≡ Some r
-    → (respond (after_lines w ls) plan_word).reply
-    ≡ replied Replies.planned (plan_from r.master_key r.k r.n (actives (after_lines w ls).site.table r.total))
+    → (respond (after_lines w ls) plan_word).answer
+    ≡ map_answer Replies.planned (plan_from r.master_key r.k r.n (actives (after_lines w ls).site.table r.total))
 plan_ledger_lent w none room ls r e =
     let v = after_lines w ls in
     let kept : Kept (state r v.site.list v.site.table) = reached_kept (state r v.site.list v.site.table) (reached_after w none ls r e) in

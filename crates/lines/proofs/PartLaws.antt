@@ -10,13 +10,13 @@ use borrow.Author.Tests.{le-leb, le-ltb, lt-ltb, eqb-true, eqb-false}
 use lib.Dec.{leb, ltb, eqb}
 use lib.ListN.{length, take, drop, length-append, length-drop}
 use lib.Seq.{length-take-le}
-use Rattle.answers.specs.Answers.{Answer, refusal, result}
+use Rattle.answers.specs.Answers.{Answer, refusal, result, After, after}
 use Rattle.lists.specs.Lists.{written}
 use Rattle.lists.proofs.Tests.{by_test, by_below, by_cond}
 use Rattle.answers.proofs.AnswerLaws.{not_said, said_same}
 use Rattle.lists.proofs.Writing.{written_take}
 use Rattle.lines.specs.Sessions.{World}
-use Rattle.lines.specs.Streams.{Progress, progress, byte, FedPart, fed_part, fed_up_to, room_for, Count, count, AfterFeed, after_feed, feed_call, end_call}
+use Rattle.lines.specs.Streams.{Progress, progress, byte, FedPart, fed_part, fed_up_to, room_for, Count, count, feed_call, end_call, FeedMemory, feed_memory}
 use Rattle.lines.specs.Inputs.{fed, ended, Fits}
 use Rattle.lines.proofs.StreamLaws.{ended_none, ended_held, byte_line}
 
@@ -46,22 +46,22 @@ cut most s (b ∷ l) =
 -- ---- a call of feed
 
 -- so many bytes of the piece were fed, and so many bytes put out
-pub record Feeds (start : Progress) (piece out : List ℕ) (a : AfterFeed) (taken put : ℕ) : Type 0 where
+pub record Feeds (start : Progress) (piece out : List ℕ) (a : After FeedMemory Count) (taken put : ℕ) : Type 0 where
   pub inside : taken ≤ length piece
   pub some : 0 < length piece → 0 < taken
-  pub world_is : a.world ≡ (fed start (take taken piece)).world
-  pub held_is : a.held ≡ (fed start (take taken piece)).held
-  pub size_is : a.size ≡ length a.held
+  pub world_is : a.left.world ≡ (fed start (take taken piece)).world
+  pub held_is : a.left.held ≡ (fed start (take taken piece)).held
+  pub size_is : a.left.size ≡ length a.left.held
   pub put_is : put ≡ length (fed start (take taken piece)).text
-  pub out_is : a.out ≡ written (fed start (take taken piece)).text out
+  pub out_is : a.left.out ≡ written (fed start (take taken piece)).text out
 
 module _ (w : World) (h piece out : List ℕ) where
   abbrev start : Progress
   start = progress w h []
 
   -- what is left where a piece was fed in part
-  abbrev left : FedPart → AfterFeed
-  left p = after_feed (result (count (length piece - length p.rest) (length p.progress.text))) p.progress.world p.progress.held (length p.progress.held) (written p.progress.text out)
+  abbrev left : FedPart → After FeedMemory Count
+  left p = after (result (count (length piece - length p.rest) (length p.progress.text))) (feed_memory p.progress.world p.progress.held (length p.progress.held) (written p.progress.text out))
 
   left_feeds : (n taken put : ℕ) → n ≤ length piece → (0 < length piece → 0 < n) → (left (fed_part (fed start (take n piece)) (drop n piece))).answer ≡ result (count taken put)
       → Feeds start piece out (left (fed_part (fed start (take n piece)) (drop n piece))) taken put
@@ -86,7 +86,7 @@ pub feed_feeds : (w : World) (line : List ℕ) (m : ℕ) (piece out : List ℕ) 
 unfolding feed_call
 feed_feeds w line m piece out taken put =
     let s = progress w (take m line) [] in
-    let Q : AfterFeed → Type 0 = λ a. a.answer ≡ result (count taken put) → Feeds s piece out a taken put in
+    let Q : After FeedMemory Count → Type 0 = λ a. a.answer ≡ result (count taken put) → Feeds s piece out a taken put in
     let most = length out - room_for w.locations in
     let c = cut most s piece in
     by_cond Q (ltb 81 m || ltb (length line) m) _ _
@@ -101,25 +101,25 @@ text_within : (t out : List ℕ) → length (written t out) ≡ length out → l
 unfolding written
 text_within t out e = omega (arith, length-append t (drop (length t) out))
 
-pub feed_within : {start : Progress} {piece out : List ℕ} {a : AfterFeed} {taken put : ℕ} → Feeds start piece out a taken put → length a.out ≡ length out → put ≤ length out
+pub feed_within : {start : Progress} {piece out : List ℕ} {a : After FeedMemory Count} {taken put : ℕ} → Feeds start piece out a taken put → length a.left.out ≡ length out → put ≤ length out
 feed_within {start} {piece} {out} {a} {taken} {put} f e =
     omega (arith, f.put_is, text_within (fed start (take taken piece)).text out (sym (ap length f.out_is) ∙ e))
 
 -- and stands in its first places
-pub feed_text : {start : Progress} {piece out : List ℕ} {a : AfterFeed} {taken put : ℕ} → Feeds start piece out a taken put → take put a.out ≡ (fed start (take taken piece)).text
+pub feed_text : {start : Progress} {piece out : List ℕ} {a : After FeedMemory Count} {taken put : ℕ} → Feeds start piece out a taken put → take put a.left.out ≡ (fed start (take taken piece)).text
 feed_text {start} {piece} {out} {a} {taken} {put} f =
     ap (take put) f.out_is ∙ written_take put (fed start (take taken piece)).text out (sym f.put_is)
 
 -- ---- a call of finish
 
 -- the line that was held, if there was one, was answered
-pub record Ends (start : Progress) (out : List ℕ) (a : AfterFeed) (put : ℕ) : Type 0 where
-  pub world_is : a.world ≡ (ended start).world
-  pub held_is : a.held ≡ []
+pub record Ends (start : Progress) (out : List ℕ) (a : After FeedMemory Count) (put : ℕ) : Type 0 where
+  pub world_is : a.left.world ≡ (ended start).world
+  pub held_is : a.left.held ≡ []
   pub put_is : put ≡ length (ended start).text
-  pub out_is : a.out ≡ written (ended start).text out
+  pub out_is : a.left.out ≡ written (ended start).text out
 
-pub finish_within : {start : Progress} {out : List ℕ} {a : AfterFeed} {put : ℕ} → Ends start out a put → length a.out ≡ length out → put ≤ length out
+pub finish_within : {start : Progress} {out : List ℕ} {a : After FeedMemory Count} {put : ℕ} → Ends start out a put → length a.left.out ≡ length out → put ≤ length out
 finish_within {start} {out} {a} {put} f e =
     omega (arith, f.put_is, text_within (ended start).text out (sym (ap length f.out_is) ∙ e))
 
@@ -132,7 +132,7 @@ feed_holds w line m piece out c e =
     (λ h. h)
 
 module _ (w : World) (line : List ℕ) (m : ℕ) (out : List ℕ) (taken put : ℕ) where
-  ends_bare : m ≡ 0 → ◌≡◌ {A = Answer Count} (result (count 0 0)) (result (count taken put)) → Ends (progress w (take m line) []) out (after_feed (result (count 0 0)) w [] 0 out) put
+  ends_bare : m ≡ 0 → ◌≡◌ {A = Answer Count} (result (count 0 0)) (result (count taken put)) → Ends (progress w (take m line) []) out (after (result (count 0 0)) (feed_memory w [] 0 out)) put
   unfolding written
   ends_bare z answer =
       let s = progress w (take m line) [] in
@@ -165,7 +165,7 @@ module _ (w : World) (line : List ℕ) (m : ℕ) (out : List ℕ) (taken put : �
   pub finish_ends : (end_call w line m out).answer ≡ result (count taken put) → Ends (progress w (take m line) []) out (end_call w line m out) put
   unfolding end_call
   finish_ends =
-      by_cond (λ (a : AfterFeed). a.answer ≡ result (count taken put) → Ends (progress w (take m line) []) out a put) (eqb m 0) _ _
+      by_cond (λ (a : After FeedMemory Count). a.answer ≡ result (count taken put) → Ends (progress w (take m line) []) out a put) (eqb m 0) _ _
       (λ y. ends_bare (eqb-true m 0 y))
       (λ n. ends_held (eqb-false m 0 n))
 
@@ -181,6 +181,6 @@ feed_not_refused w line m piece out f c =
 pub finish_not_refused : (w : World) (line : List ℕ) (m : ℕ) (out : List ℕ) → Fits m line w out → (c : ℕ) → (end_call w line m out).answer ≡ refusal c → ⊥
 unfolding end_call
 finish_not_refused w line m out f c =
-    by_cond (λ (a : AfterFeed). a.answer ≡ refusal c → ⊥) (eqb m 0) _ _
+    by_cond (λ (a : After FeedMemory Count). a.answer ≡ refusal c → ⊥) (eqb m 0) _ _
     (λ y e. not_said c _ (sym e))
     (λ n. feed_not_refused w line m (10 ∷ []) out f c)

@@ -9,7 +9,7 @@ use Prim.Native.Nat.{ℕ}
 use lib.Dec.{ltb, leb, eqb}
 use lib.ListN.{length, take}
 use Rattle.std.specs.Prelude.{Result, Ok, Err, Option, Some, None}
-use Rattle.answers.specs.Answers.{Answer, refusal, result, map_answer}
+use Rattle.answers.specs.Answers.{Answer, refusal, result, map_answer, After, after}
 use Rattle.lists.specs.Lists.{same, has, every}
 use Rattle.answers.specs.Refusing.{Among, Spares}
 use Rattle.lists.proofs.Tests.{by_cond}
@@ -17,7 +17,7 @@ use Rattle.answers.proofs.Spared.{has_within, spared_within}
 use Rattle.answers.specs.declared.Refusal.{Refusal}
 use Rattle.rounds.specs.declared.round.Round.{Round}
 use Rattle.rounds.specs.Rounds.{State, state, open_call, admit_call, join_call, withdraw_call}
-use Rattle.rounds.specs.Plans.{plan_call, shown_plan}
+use Rattle.rounds.specs.Plans.{plan_call, shown_plan, PlanLists, plan_lists}
 use Rattle.rounds.specs.Ledgers.{Sheet}
 use Rattle.rounds.specs.RefusedBy.{open_refusals, admit_refusals, join_refusals, withdraw_refusals, plan_refusals}
 use Rattle.rounds.proofs.RefusedLaws as rounds
@@ -30,10 +30,10 @@ use Rattle.lines.specs.declared.sessions.Session.{Session}
 use Rattle.lines.specs.declared.sessions.Memory.{Memory}
 use Rattle.lines.specs.declared.sessions.Fed.{Fed}
 use Rattle.lines.specs.Replies.{Reply, joined, withdrawn, planned}
-use Rattle.lines.specs.Sessions.{replied, site, said, replaced, open_line, exchange_reply, admit_line, join_line, withdraw_line, World, world, Response, response, plan_line, on_site, answered, respond}
+use Rattle.lines.specs.Sessions.{site, replaced, open_line, exchange_reply, admit_line, join_line, withdraw_line, World, world, plan_line, on_site, answered, respond}
 use Rattle.fields.specs.Cuts.{held_most}
-use Rattle.lines.specs.Streams.{AfterFeed, after_feed, room_for, answer_of_feeding, world_of, after_call, feed_call, end_call, BuffersAfter}
-use Rattle.lines.specs.RefusedBy.{parse_refusals, feed_refusals, finish_refusals, answer_of_reply, line_refusals}
+use Rattle.lines.specs.Streams.{room_for, answer_of_feeding, world_of, after_call, feed_call, end_call, BuffersAfter, FeedMemory, Count, feed_memory}
+use Rattle.lines.specs.RefusedBy.{parse_refusals, feed_refusals, finish_refusals, line_refusals}
 
 -- ---- parse
 
@@ -70,8 +70,8 @@ parse_refuses line = by_cond (Among parse_refusals) (leb (length line) 80) _ _ (
 
 module _ (w : World) (line : List ℕ) (m : ℕ) (out : List ℕ) where
   -- what they leave of what the model has
-  abbrev Spared : List ℕ → AfterFeed → Type 0
-  Spared ws a = Spares ws a.answer (after_feed a.answer w (take m line) m out) a
+  abbrev Spared : List ℕ → After FeedMemory Count → Type 0
+  Spared ws a = Spares ws a.answer (feed_memory w (take m line) m out) a.left
 
   feed_spares : (piece : List ℕ) → Spared feed_refusals (feed_call w line m piece out)
   unfolding feed_call has same
@@ -92,10 +92,10 @@ abbrev pub lent : Session → Memory → List ℕ → List ℕ → Lent
 lent s m line out = (s, (world_of s m, (line, (out, m.scratch.now))))
 
 module _ (s s' : Session) (m m' : Memory) (line line' out out' : List ℕ) where
-  abbrev LeftSo : (Result Fed Refusal) → AfterFeed → Type 0
+  abbrev LeftSo : (Result Fed Refusal) → After FeedMemory Count → Type 0
   LeftSo r a = (after_call r s' (world_of s' m') line' out' ≡ a) × BuffersAfter r line line' m.scratch.now m'.scratch.now
 
-  all_spared : (ws : List ℕ) (r : Result Fed Refusal) (a : AfterFeed) → Spared (world_of s m) line s.held out ws a → LeftSo r a
+  all_spared : (ws : List ℕ) (r : Result Fed Refusal) (a : After FeedMemory Count) → Spared (world_of s m) line s.held out ws a → LeftSo r a
       → Spares {M = Lent} ws (answer_of_feeding r) (lent s m line out) (lent s' m' line' out')
   all_spared ws (Ok f) a h e = tt
   all_spared ws (Err why) a h e =
@@ -120,8 +120,8 @@ module _ (l t ls ts : List ℕ) (places : ℕ) where
   abbrev with_round : Option Round → World
   with_round c = world (site c l t) ls ts places
 
-  abbrev LineSpared : Option Round → Response → Type 0
-  LineSpared c a = Spares line_refusals (answer_of_reply a.reply) (with_round c) a.world
+  abbrev LineSpared : Option Round → After World Reply → Type 0
+  LineSpared c a = Spares line_refusals a.answer (with_round c) a.left
 
   -- "a refused one changes nothing"
   replaced_spares : (c : Option Round) (o : Answer Round) (l' : List ℕ) → Spares line_refusals o l l'
@@ -129,25 +129,17 @@ module _ (l t ls ts : List ℕ) (places : ℕ) where
   replaced_spares c (refusal w) l' s = (s.0, refl)
   replaced_spares c (result r) l' s = tt
 
-  -- a call on the round, whose answers are no refusals
-  module _ {A : Type 0} (f : A → Reply) (says_so : (x : A) → answer_of_reply (f x) ≡ result (f x)) where
-    said_spares : (r : Round) (o : Answer A) (s' : State) → Spares line_refusals o (state r l t) s'
-        → LineSpared (Some r) (on_site (with_round (Some r)) (said (replied f o) (site (Some s'.round) s'.list s'.table)))
-    said_spares r (refusal w) s' s = (s.0, (λ i. world (site (Some (s.1 i).round) (s.1 i).list (s.1 i).table) ls ts places))
-    said_spares r (result x) s' s = subst (λ (o : Answer Reply). Spares line_refusals o (with_round (Some r)) (with_lists s')) (sym (says_so x)) tt
-      where
-        with_lists : State → World
-        with_lists s = world (site (Some s.round) s.list s.table) ls ts places
+  -- a call on the round
+  said_spares : {A : Type 0} (f : A → Reply) (r : Round) (o : Answer A) (s' : State) → Spares line_refusals o (state r l t) s'
+      → LineSpared (Some r) (on_site (with_round (Some r)) (after (map_answer f o) (site (Some s'.round) s'.list s'.table)))
+  said_spares f r (refusal w) s' s = (s.0, (λ i. world (site (Some (s.1 i).round) (s.1 i).list (s.1 i).table) ls ts places))
+  said_spares f r (result x) s' s = tt
 
   open_line_spares : (c : Option Round) (key k n : ℕ) → LineSpared c (on_site (with_round c) (open_line key k n (site c l t)))
   unfolding open_line every has same
   open_line_spares c key k n =
       let o = open_call key k n l in
-      replaced_spares c o.answer o.list (spared_within open_refusals line_refusals o.answer l o.list refl (rounds.open_refuses key k n l))
-
-  exchange_says : (x : maybe.Option (ℕ × ℕ)) → answer_of_reply (exchange_reply x) ≡ result (exchange_reply x)
-  exchange_says maybe.none = refl
-  exchange_says (maybe.some p) = refl
+      replaced_spares c o.answer o.left (spared_within open_refusals line_refusals o.answer l o.left refl (rounds.open_refuses key k n l))
 
   admit_line_spares : (c : Option Round) → LineSpared c (on_site (with_round c) (admit_line (site c l t)))
   unfolding admit_line every has same
@@ -155,7 +147,7 @@ module _ (l t ls ts : List ℕ) (places : ℕ) where
   admit_line_spares (Some r) =
       let s = state r l t in
       let a = admit_call s in
-      said_spares exchange_reply exchange_says r a.answer a.state (spared_within admit_refusals line_refusals a.answer s a.state refl (rounds.admit_refuses s))
+      said_spares exchange_reply r a.answer a.left (spared_within admit_refusals line_refusals a.answer s a.left refl (rounds.admit_refuses s))
 
   join_line_spares : (c : Option Round) → LineSpared c (on_site (with_round c) (join_line (site c l t)))
   unfolding join_line every has same
@@ -163,7 +155,7 @@ module _ (l t ls ts : List ℕ) (places : ℕ) where
   join_line_spares (Some r) =
       let s = state r l t in
       let a = join_call s in
-      said_spares joined (λ x. refl) r a.answer a.state (spared_within join_refusals line_refusals a.answer s a.state refl (rounds.join_refuses s))
+      said_spares joined r a.answer a.left (spared_within join_refusals line_refusals a.answer s a.left refl (rounds.join_refuses s))
 
   withdraw_line_spares : (x : ℕ) (c : Option Round) → LineSpared c (on_site (with_round c) (withdraw_line x (site c l t)))
   unfolding withdraw_line every has same
@@ -171,11 +163,11 @@ module _ (l t ls ts : List ℕ) (places : ℕ) where
   withdraw_line_spares x (Some r) =
       let s = state r l t in
       let a = withdraw_call s x in
-      said_spares (λ u. withdrawn x) (λ u. refl) r a.answer a.state
-      (spared_within withdraw_refusals line_refusals a.answer s a.state refl (rounds.withdraw_refuses s x))
+      said_spares (λ u. withdrawn x) r a.answer a.left
+      (spared_within withdraw_refusals line_refusals a.answer s a.left refl (rounds.withdraw_refuses s x))
 
-  planned_spares : (c : Option Round) (f : Unit {0} → List Sheet) (o : Answer (Unit {0})) (p : AfterPlan) → Spares line_refusals o (after_plan o ls ts) p
-      → LineSpared c (response (replied planned (map_answer f o)) (world (site c l t) p.locations p.terminals places))
+  planned_spares : (c : Option Round) (f : Unit {0} → List Sheet) (o : Answer (Unit {0})) (p : PlanLists) → Spares line_refusals o (plan_lists ls ts) p
+      → LineSpared c (after (map_answer planned (map_answer f o)) (world (site c l t) p.locations p.terminals places))
   planned_spares c f (refusal w) p s = (s.0, (λ i. world (site c l t) (s.1 i).locations (s.1 i).terminals places))
   planned_spares c f (result u) p s = tt
 
@@ -185,8 +177,8 @@ module _ (l t ls ts : List ℕ) (places : ℕ) where
   plan_line_spares (Some r) =
       let s = state r l t in
       let p = plan_call s ls ts places in
-      planned_spares (Some r) _ p.answer p
-      (spared_within plan_refusals line_refusals p.answer (after_plan p.answer ls ts) p refl (rounds.plan_spares s ls ts places))
+      planned_spares (Some r) _ p.answer p.left
+      (spared_within plan_refusals line_refusals p.answer (plan_lists ls ts) p.left refl (rounds.plan_spares s ls ts places))
 
   answered_spares : (c : Option Round) (o : Answer Command) → Among parse_refusals o → LineSpared c (answered (with_round c) o)
   unfolding answered every has same
@@ -198,6 +190,6 @@ module _ (l t ls ts : List ℕ) (places : ℕ) where
   answered_spares c (result command.Plan) a = plan_line_spares c
 
 -- "refused .." to a line leaves all that the program has as it was
-pub line_refuses : (w : World) (line : List ℕ) → let a = respond w line in Spares line_refusals (answer_of_reply a.reply) w a.world
+pub line_refuses : (w : World) (line : List ℕ) → let a = respond w line in Spares line_refusals a.answer w a.left
 unfolding respond parse_call
 line_refuses w line = answered_spares w.site.list w.site.table w.locations w.terminals w.places w.site.current (command_of line) (parse_refuses line)

@@ -19,10 +19,11 @@ use Rattle.fields.specs.declared.texts.Text.{Text}
 use Rattle.fields.proofs.FieldLaws.{next_some, next_none}
 use Rattle.fields.proofs.DecimalLaws.{length_decimal, length_tabbed}
 use Rattle.fields.proofs.PutLaws.{first_none, first_then}
-use Rattle.lines.specs.Replies.{refused, joined_word, withdrawn_word, refused_word, slot_text, place_line, place_lines, text_of}
+use Rattle.lines.specs.Replies.{joined_word, withdrawn_word, refused_word, slot_text, place_line, place_lines, text_of, reply_text}
 use Rattle.lines.specs.InnerLines.{admitted_reply, line_of}
 use Rattle.lines.specs.declared.texts.Accepted.{Accepted}
 use Rattle.lines.specs.declared.texts.Accepted.TheVariants as accepted
+use Rattle.answers.specs.Answers.{refusal}
 
 -- ---- the lines of a plan
 
@@ -73,21 +74,21 @@ length_plan k ls ts =
 length_one : (w : List ℕ) (n : ℕ) → length (w ++ tabbed n ++ line_end) ≤ length w + 12
 length_one w n = simp length-append (omega (arith, length_tabbed n))
 
-length_admitted : (o : rust.Option Exchange) → length (text_of (admitted_reply o)) ≤ 32
-unfolding text_of
+length_admitted : (o : rust.Option Exchange) → length (reply_text (admitted_reply o)) ≤ 32
+unfolding reply_text
 length_admitted (rust.Some e) = simp length-append (omega (arith, length_tabbed e.enters, length_tabbed e.leaves))
 length_admitted rust.None = omega arith
 
 -- no answer is longer than a plan of all places and a line
-pub length_answer : (a : Accepted) (ls ts : List ℕ) → length (text_of (line_of a ls ts)) ≤ 33 * length ls + 32
-unfolding text_of
+pub length_answer : (a : Accepted) (ls ts : List ℕ) → length (reply_text (line_of a ls ts)) ≤ 33 * length ls + 32
+unfolding reply_text
 length_answer accepted.Opened ls ts = omega arith
 length_answer (accepted.Admitted e) ls ts = omega (arith, length_admitted e)
 length_answer (accepted.Joined s) ls ts = omega (arith, length_one joined_word s)
 length_answer (accepted.Withdrawn s) ls ts = omega (arith, length_one withdrawn_word s)
 length_answer (accepted.Planned k) ls ts = omega (arith, length_plan k ls ts)
 
-pub length_refused : (c : ℕ) → length (text_of (refused c)) ≤ 32
+pub length_refused : (c : ℕ) → length (text_of (refusal c)) ≤ 32
 unfolding text_of
 length_refused c = omega (arith, length_one refused_word c)
 

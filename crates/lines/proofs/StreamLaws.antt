@@ -12,11 +12,12 @@ use Rattle.lists.proofs.Tests.{by_test}
 use Rattle.fields.specs.Lines.{lines_of}
 use Rattle.fields.specs.Cuts.{whole, firsts, unended, cut_lines}
 use Rattle.fields.proofs.PieceLaws.{input_lines}
-use Rattle.lines.specs.Replies.{text_of}
-use Rattle.lines.specs.Sessions.{World, respond, Response, answers}
+use Rattle.lines.specs.Replies.{text_of, Reply}
+use Rattle.lines.specs.Sessions.{World, respond, answers}
 use Rattle.lines.specs.Streams.{Progress, progress, byte}
 use Rattle.lines.specs.Inputs.{fed, ended}
 use Rattle.lines.proofs.CommandLaws.{command_first}
+use Rattle.answers.specs.Answers.{After}
 
 -- ---- parts of an input
 
@@ -29,7 +30,7 @@ put_out w h (p ∷ ps) = (fed (progress w h []) p).text ++ put_out (fed (progres
 -- ---- one byte
 
 pub byte_line : (s : Progress) (b : ℕ) → eqb b 10 ≡ true
-    → byte s b ≡ progress (respond s.world s.held).world [] (s.text ++ text_of (respond s.world s.held).reply)
+    → byte s b ≡ progress (respond s.world s.held).left [] (s.text ++ text_of (respond s.world s.held).answer)
 unfolding byte
 byte_line s b e = rw e
 
@@ -46,7 +47,7 @@ byte_behind : (t : List ℕ) (s : Progress) (b : ℕ) → byte (behind t s) b �
 byte_behind t s b =
     by_test (eqb b 10)
     (λ e. byte_line (behind t s) b e
-    ∙ (λ i. progress (respond s.world s.held).world [] (append_assoc t s.text (text_of (respond s.world s.held).reply) i))
+    ∙ (λ i. progress (respond s.world s.held).left [] (append_assoc t s.text (text_of (respond s.world s.held).answer) i))
     ∙ ap (behind t) (sym (byte_line s b e)))
     (λ e. byte_held (behind t s) b e ∙ ap (behind t) (sym (byte_held s b e)))
 
@@ -90,8 +91,8 @@ respond_first w l = rw (command_first l)
 answers_firsts : (w : World) (ls : List (List ℕ)) → answers w (firsts ls) ≡ answers w ls
 answers_firsts w [] = refl
 answers_firsts w (l ∷ ls) =
-    ap (λ (h : Response). text_of h.reply ++ answers h.world (firsts ls)) (respond_first w l)
-    ∙ ap (λ (t : List ℕ). text_of (respond w l).reply ++ t) (answers_firsts (respond w l).world ls)
+    ap (λ (h : After World Reply). text_of h.answer ++ answers h.left (firsts ls)) (respond_first w l)
+    ∙ ap (λ (t : List ℕ). text_of (respond w l).answer ++ t) (answers_firsts (respond w l).left ls)
 
 pub ended_none : (s : Progress) → length s.held ≡ 0 → ended s ≡ s
 unfolding ended
@@ -105,7 +106,7 @@ ends : (w : World) (h t : List ℕ) → (ended (progress w h t)).text ≡ t ++ a
 ends w [] t = ap (λ (s : Progress). s.text) (ended_none (progress w [] t) refl) ∙ sym (append-nil t)
 ends w (x ∷ h) t =
     ap (λ (s : Progress). s.text) (ended_held (progress w (x ∷ h) t) (λ z. omega arith) ∙ byte_line (progress w (x ∷ h) t) 10 refl)
-    ∙ ap (λ (a : List ℕ). t ++ a) (sym (append-nil (text_of (respond w (x ∷ h)).reply)))
+    ∙ ap (λ (a : List ℕ). t ++ a) (sym (append-nil (text_of (respond w (x ∷ h)).answer)))
 
 -- the bytes h of a line are held: the answers to the lines that the cuts of the rest give
 lines_fed : (w : World) (h t l : List ℕ) → (ended (fed (progress w h t) l)).text ≡ t ++ answers w (cut_lines h l)
@@ -115,8 +116,8 @@ lines_fed w h t (b ∷ l) =
     (λ e.
     let r = respond w h in
     ap (λ (s : Progress). (ended (fed s l)).text) (byte_line (progress w h t) b e)
-    ∙ lines_fed r.world [] (t ++ text_of r.reply) l
-    ∙ append_assoc t (text_of r.reply) (answers r.world (cut_lines [] l))
+    ∙ lines_fed r.left [] (t ++ text_of r.answer) l
+    ∙ append_assoc t (text_of r.answer) (answers r.left (cut_lines [] l))
     ∙ rw e)
     (λ e.
     ap (λ (s : Progress). (ended (fed s l)).text) (byte_held (progress w h t) b e)

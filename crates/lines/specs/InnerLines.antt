@@ -7,7 +7,7 @@ use Rattle.orders.specs.declared.consistent_reservoir.Exchange.{Exchange}
 use Rattle.answers.specs.Answers.{Answer, refusal, result}
 use Rattle.lines.specs.declared.commands.Command.{Command}
 use Rattle.rounds.specs.Plans.{sheets}
-use Rattle.lines.specs.Replies.{Reply, opened, admitted, nothing, joined, withdrawn, planned, refused}
+use Rattle.lines.specs.Replies.{Reply, opened, admitted, nothing, joined, withdrawn, planned}
 use Rattle.lines.specs.declared.texts.Accepted.{Accepted}
 use Rattle.lines.specs.declared.texts.Accepted.TheVariants as accepted
 
@@ -33,7 +33,7 @@ line_of (accepted.Joined s) ls ts = joined s
 line_of (accepted.Withdrawn s) ls ts = withdrawn s
 line_of (accepted.Planned k) ls ts = planned (sheets (take k ls) (take k ts))
 
--- an answer, or a refusal by its number
-abbrev pub reply_of : Result Accepted Refusal → List ℕ → List ℕ → Reply
-reply_of (Ok a) ls ts = line_of a ls ts
-reply_of (Err why) ls ts = refused (number why)
+-- or a refusal by its number
+abbrev pub reply_of : Result Accepted Refusal → List ℕ → List ℕ → Answer Reply
+reply_of (Ok a) ls ts = result (line_of a ls ts)
+reply_of (Err why) ls ts = refusal (number why)

@@ -1,8 +1,6 @@
 -- The refusals of each call, in document 01's order. That it has no others is the law of its list in proofs/RefusedLaws.antt.
 -- Assumes nothing.
 use Rattle.std.specs.Prelude.{List, [], ◌∷◌, ℕ}
-use Rattle.answers.specs.Answers.{Answer, refusal, result}
-use Rattle.lines.specs.Replies.{Reply, opened, admitted, nothing, joined, withdrawn, planned, refused}
 
 -- `parse`. 12: "a program line of no known form"
 abbrev pub parse_refusals : List ℕ
@@ -17,16 +15,6 @@ abbrev pub finish_refusals : List ℕ
 finish_refusals = 12 ∷ 4 ∷ []
 
 -- ---- lines
-
--- an answer to a line, as what a call says
-abbrev pub answer_of_reply : Reply → Answer Reply
-answer_of_reply opened = result opened
-answer_of_reply (admitted x y) = result (admitted x y)
-answer_of_reply nothing = result nothing
-answer_of_reply (joined s) = result (joined s)
-answer_of_reply (withdrawn s) = result (withdrawn s)
-answer_of_reply (planned ss) = result (planned ss)
-answer_of_reply (refused c) = refusal c
 
 -- a line is refused 12, or what its open, admit, join, withdraw or plan is
 abbrev pub line_refusals : List ℕ

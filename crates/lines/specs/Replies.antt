@@ -2,10 +2,11 @@
 -- Assumes nothing.
 use Rattle.std.specs.Prelude.{List, [], ◌∷◌, ◌++◌, ℕ, suc}
 use Rattle.std.proofs.Math.Option.{Option, none, some}
+use Rattle.answers.specs.Answers.{Answer, refusal, result}
 use Rattle.rounds.specs.Ledgers.{Sheet}
 use Rattle.fields.specs.Printing.{decimal_of, tabbed, line_end}
 
--- what is answered to a line
+-- what is answered to a line that is not refused
 pub data Reply : Type 0 where
   opened : Reply
   admitted : ℕ → ℕ → Reply
@@ -13,7 +14,6 @@ pub data Reply : Type 0 where
   joined : ℕ → Reply
   withdrawn : ℕ → Reply
   planned : List Sheet → Reply
-  refused : ℕ → Reply
 
 -- ---- answers
 
@@ -51,11 +51,15 @@ place_lines place [] = []
 place_lines place (s ∷ ss) = place_line place s ++ place_lines (suc place) ss
 
 -- "`admit` prints the word admit, the location in and the one out, or the word none alone."
-unfoldable pub text_of : Reply → List ℕ
-text_of opened = opened_word ++ line_end
-text_of (admitted v o) = admit_word ++ tabbed v ++ tabbed o ++ line_end
-text_of nothing = none_word ++ line_end
-text_of (joined s) = joined_word ++ tabbed s ++ line_end
-text_of (withdrawn s) = withdrawn_word ++ tabbed s ++ line_end
-text_of (planned ss) = place_lines 0 ss
-text_of (refused c) = refused_word ++ tabbed c ++ line_end
+unfoldable pub reply_text : Reply → List ℕ
+reply_text opened = opened_word ++ line_end
+reply_text (admitted v o) = admit_word ++ tabbed v ++ tabbed o ++ line_end
+reply_text nothing = none_word ++ line_end
+reply_text (joined s) = joined_word ++ tabbed s ++ line_end
+reply_text (withdrawn s) = withdrawn_word ++ tabbed s ++ line_end
+reply_text (planned ss) = place_lines 0 ss
+
+-- a refusal is printed by its number
+unfoldable pub text_of : Answer Reply → List ℕ
+text_of (result r) = reply_text r
+text_of (refusal c) = refused_word ++ tabbed c ++ line_end

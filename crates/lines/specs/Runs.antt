@@ -10,7 +10,7 @@ use Rattle.lines.specs.Streams.{count, feed_call, end_call}
 -- the list with the held bytes, and any list for what it puts out; it is not refused.
 pub data Runs : World → List ℕ → List (List ℕ) → List ℕ → Type 0 where
   finishes : (w : World) (line : List ℕ) (m : ℕ) (out : List ℕ) (taken put : ℕ) → (end_call w line m out).answer ≡ result (count taken put)
-      → Runs w (take m line) [] (take put (end_call w line m out).out)
+      → Runs w (take m line) [] (take put (end_call w line m out).left.out)
   feeds : (w : World) (line : List ℕ) (m : ℕ) (piece out : List ℕ) (taken put : ℕ) → (feed_call w line m piece out).answer ≡ result (count taken put)
-      → (parts : List (List ℕ)) (text : List ℕ) → Runs (feed_call w line m piece out).world (feed_call w line m piece out).held parts text
-      → Runs w (take m line) (take taken piece ∷ parts) (take put (feed_call w line m piece out).out ++ text)
+      → (parts : List (List ℕ)) (text : List ℕ) → Runs (feed_call w line m piece out).left.world (feed_call w line m piece out).left.held parts text
+      → Runs w (take m line) (take taken piece ∷ parts) (take put (feed_call w line m piece out).left.out ++ text)

@@ -2,19 +2,14 @@
 -- Assumes nothing.
 use Rattle.std.specs.Prelude.{List, [], ◌∷◌, ◌++◌, ℕ, Option, Some, None}
 use Rattle.std.proofs.Math.Option as maybe
-use Rattle.answers.specs.Answers.{Answer, refusal, result, After}
+use Rattle.answers.specs.Answers.{Answer, refusal, result, map_answer, After, after, refused}
 use Rattle.rounds.specs.declared.round.Round.{Round}
-use Rattle.rounds.specs.Rounds.{state, open_call, admit_call, join_call, withdraw_call}
+use Rattle.rounds.specs.Rounds.{State, state, open_call, admit_call, join_call, withdraw_call}
 use Rattle.rounds.specs.Plans.{plan_call, shown_plan}
 use Rattle.lines.specs.Commands.{command_of}
-use Rattle.lines.specs.Replies.{Reply, opened, admitted, nothing, joined, withdrawn, planned, refused, text_of}
+use Rattle.lines.specs.Replies.{Reply, opened, admitted, nothing, joined, withdrawn, planned, text_of}
 use Rattle.lines.specs.declared.commands.Command.{Command}
 use Rattle.lines.specs.declared.commands.Command.TheVariants as command
-
--- a refusal by its number, or what is answered otherwise
-abbrev pub replied : {A : Type 0} → (A → Reply) → Answer A → Reply
-replied f (refusal c) = refused c
-replied f (result x) = f x
 
 -- ---- open, admit, join, withdraw
 
@@ -27,21 +22,13 @@ pub record Site : Type 0 where
 abbrev pub site : Option Round → List ℕ → List ℕ → Site
 site c l t = record { current = c; list = l; table = t }
 
--- what a call answers, and the round and its memory after it
-pub record Said : Type 0 where
-  pub reply : Reply
-  pub site : Site
-
-abbrev pub said : Reply → Site → Said
-said r s = record { reply = r; site = s }
-
 -- "An accepted open replaces the round"; a refused one changes nothing
-abbrev pub replaced : Site → Answer Round → List ℕ → Said
-replaced s (refusal c) l = said (refused c) s
-replaced s (result r) l = said opened (site (Some r) l s.table)
+abbrev pub replaced : Site → Answer Round → List ℕ → After Site Reply
+replaced s (refusal c) l = refused c s
+replaced s (result r) l = after (result opened) (site (Some r) l s.table)
 
-unfoldable pub open_line : ℕ → ℕ → ℕ → Site → Said
-open_line key k n s = replaced s (open_call key k n s.list).answer (open_call key k n s.list).list
+unfoldable pub open_line : ℕ → ℕ → ℕ → Site → After Site Reply
+open_line key k n s = replaced s (open_call key k n s.list).answer (open_call key k n s.list).left
 
 -- "any other call before one gets 12", and all is as it was; after one it is the round's call
 abbrev pub on_round : {A : Type 0} → Option Round → A → (Round → A) → A
@@ -49,23 +36,23 @@ on_round None before f = before
 on_round (Some r) before f = f r
 
 -- what the round's call says, and what it leaves
-abbrev pub said_of : {A : Type 0} → (A → Reply) → After A → Said
-said_of f a = said (replied f a.answer) (site (Some a.state.round) a.state.list a.state.table)
+abbrev pub said_of : {A : Type 0} → (A → Reply) → After State A → After Site Reply
+said_of f a = after (map_answer f a.answer) (site (Some a.left.round) a.left.list a.left.table)
 
 -- "the location in and the one out, or the word none alone"
 abbrev pub exchange_reply : maybe.Option (ℕ × ℕ) → Reply
 exchange_reply maybe.none = nothing
 exchange_reply (maybe.some p) = admitted p.0 p.1
 
-unfoldable pub admit_line : Site → Said
-admit_line s = on_round s.current (said (refused 12) s) (λ r. said_of exchange_reply (admit_call (state r s.list s.table)))
+unfoldable pub admit_line : Site → After Site Reply
+admit_line s = on_round s.current (refused 12 s) (λ r. said_of exchange_reply (admit_call (state r s.list s.table)))
 
-unfoldable pub join_line : Site → Said
-join_line s = on_round s.current (said (refused 12) s) (λ r. said_of joined (join_call (state r s.list s.table)))
+unfoldable pub join_line : Site → After Site Reply
+join_line s = on_round s.current (refused 12 s) (λ r. said_of joined (join_call (state r s.list s.table)))
 
-unfoldable pub withdraw_line : ℕ → Site → Said
+unfoldable pub withdraw_line : ℕ → Site → After Site Reply
 withdraw_line x s =
-    on_round s.current (said (refused 12) s) (λ r. said_of (λ u. withdrawn x) (withdraw_call (state r s.list s.table) x))
+    on_round s.current (refused 12 s) (λ r. said_of (λ u. withdrawn x) (withdraw_call (state r s.list s.table) x))
 
 -- ---- plan, and any line
 
@@ -79,29 +66,21 @@ pub record World : Type 0 where
 abbrev pub world : Site → List ℕ → List ℕ → ℕ → World
 world s ls ts places = record { site = s; locations = ls; terminals = ts; places = places }
 
--- what is answered to a line, and what stands after it
-pub record Response : Type 0 where
-  pub reply : Reply
-  pub world : World
-
-abbrev pub response : Reply → World → Response
-response r w = record { reply = r; world = w }
-
 -- the plan's sheets in place of its answer, the two lists as it left them
-unfoldable pub plan_line : World → Response
+unfoldable pub plan_line : World → After World Reply
 plan_line w =
-    on_round w.site.current (response (refused 12) w)
+    on_round w.site.current (refused 12 w)
     (λ r.
     let p = plan_call (state r w.site.list w.site.table) w.locations w.terminals w.places in
-    response (replied planned (shown_plan r.k p)) (world w.site p.locations p.terminals w.places))
+    after (map_answer planned (shown_plan r.k p)) (world w.site p.left.locations p.left.terminals w.places))
 
 -- the plan's lists stay
-abbrev pub on_site : World → Said → Response
-on_site w a = response a.reply (world a.site w.locations w.terminals w.places)
+abbrev pub on_site : World → After Site Reply → After World Reply
+on_site w a = after a.answer (world a.left w.locations w.terminals w.places)
 
 -- "12 .. a program line of no known form"
-unfoldable pub answered : World → Answer Command → Response
-answered w (refusal c) = response (refused c) w
+unfoldable pub answered : World → Answer Command → After World Reply
+answered w (refusal c) = refused c w
 answered w (result (command.Open key k n)) = on_site w (open_line key k n w.site)
 answered w (result command.Admit) = on_site w (admit_line w.site)
 answered w (result command.Join) = on_site w (join_line w.site)
@@ -110,15 +89,15 @@ answered w (result command.Plan) = plan_line w
 
 -- ---- lines
 
-unfoldable pub respond : World → List ℕ → Response
+unfoldable pub respond : World → List ℕ → After World Reply
 respond w line = answered w (command_of line)
 
 -- what stands after lines
 abbrev pub after_lines : World → List (List ℕ) → World
 after_lines w [] = w
-after_lines w (l ∷ ls) = after_lines (respond w l).world ls
+after_lines w (l ∷ ls) = after_lines (respond w l).left ls
 
 -- the text of the answers to lines in order, each on what the one before left
 abbrev pub answers : World → List (List ℕ) → List ℕ
 answers w [] = []
-answers w (l ∷ ls) = text_of (respond w l).reply ++ answers (respond w l).world ls
+answers w (l ∷ ls) = text_of (respond w l).answer ++ answers (respond w l).left ls

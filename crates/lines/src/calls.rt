@@ -2,7 +2,7 @@
 ghost use Rattle.std.specs.Prelude.{◌≡◌, List, ℕ, length};
 ghost use Rattle.fields.specs.Texts.{HasRoom, SameList, Puts};
 ghost use Rattle.lines.specs.Replies.{text_of};
-ghost use Rattle.lines.specs.Sessions.{site, said, world, response, open_line, admit_line, join_line, withdraw_line, plan_line, respond};
+ghost use Rattle.lines.specs.Sessions.{site, world, open_line, admit_line, join_line, withdraw_line, plan_line, respond};
 ghost use Rattle.lines.specs.Streams.{room_for};
 ghost use Rattle.lines.specs.InnerLines.{reply_of};
 
@@ -13,6 +13,7 @@ use answers::Refusal;
 use fields::texts::Text;
 use rounds::round;
 use rounds::round::Round;
+ghost use Rattle.answers.specs.Answers.{after};
 
 // ---- the calls: refusal 12 before an accepted open, and those of the round's
 
@@ -24,7 +25,7 @@ fn open(
     n: u32,
     list: &mut [u32],
 ) -> Result<Accepted, Refusal>
-    ensures { (t ls ts : List ℕ) → said (reply_of result ls ts) (site current.new list.new t) ≡ open_line key k n (site current.old list.old t) }
+    ensures { (t ls ts : List ℕ) → after (reply_of result ls ts) (site current.new list.new t) ≡ open_line key k n (site current.old list.old t) }
 {
     let opened = round::open(key, k, n, list)?;
     *current = Some(opened);
@@ -32,7 +33,7 @@ fn open(
 }
 
 fn admit(current: &mut Option<Round>, list: &mut [u32], table: &[u8]) -> Result<Accepted, Refusal>
-    ensures { (ls ts : List ℕ) → said (reply_of result ls ts) (site current.new list.new table.now) ≡ admit_line (site current.old list.old table.now) }
+    ensures { (ls ts : List ℕ) → after (reply_of result ls ts) (site current.new list.new table.now) ≡ admit_line (site current.old list.old table.now) }
 {
     let round = current.as_mut().ok_or(Refusal::Misfit)?;
     let exchange = round.admit(list, table)?;
@@ -40,7 +41,7 @@ fn admit(current: &mut Option<Round>, list: &mut [u32], table: &[u8]) -> Result<
 }
 
 fn join(current: &mut Option<Round>, list: &[u32], table: &mut [u8]) -> Result<Accepted, Refusal>
-    ensures { (ls ts : List ℕ) → said (reply_of result ls ts) (site current.new list.now table.new) ≡ join_line (site current.old list.now table.old) }
+    ensures { (ls ts : List ℕ) → after (reply_of result ls ts) (site current.new list.now table.new) ≡ join_line (site current.old list.now table.old) }
 {
     let round = current.as_mut().ok_or(Refusal::Misfit)?;
     let slot = round.join(list, table)?;
@@ -53,7 +54,7 @@ fn withdraw(
     table: &mut [u8],
     slot: u32,
 ) -> Result<Accepted, Refusal>
-    ensures { (ls ts : List ℕ) → said (reply_of result ls ts) (site current.new list.now table.new) ≡ withdraw_line slot (site current.old list.now table.old) }
+    ensures { (ls ts : List ℕ) → after (reply_of result ls ts) (site current.new list.now table.new) ≡ withdraw_line slot (site current.old list.now table.old) }
 {
     let round = current.as_mut().ok_or(Refusal::Misfit)?;
     round.withdraw(list, table, slot)?;
@@ -68,7 +69,7 @@ fn plan(
     terminals: &mut [u32],
     scratch: &mut [u64],
 ) -> Result<Accepted, Refusal>
-    ensures { response (reply_of result locations.new terminals.new) (world (site current list.now table.now) locations.new terminals.new (length scratch.old)) ≡ plan_line (world (site current list.now table.now) locations.old terminals.old (length scratch.old)) }
+    ensures { after (reply_of result locations.new terminals.new) (world (site current list.now table.now) locations.new terminals.new (length scratch.old)) ≡ plan_line (world (site current list.now table.now) locations.old terminals.old (length scratch.old)) }
 {
     let round = current.ok_or(Refusal::Misfit)?;
     round::plan(round, list, table, locations, terminals, scratch)?;
@@ -87,7 +88,7 @@ fn act(
     terminals: &mut [u32],
     scratch: &mut [u64],
 ) -> Result<Accepted, Refusal>
-    ensures { response (reply_of result locations.new terminals.new) (world (site current.new list.new table.new) locations.new terminals.new (length scratch.old)) ≡ respond (world (site current.old list.old table.old) locations.old terminals.old (length scratch.old)) line.now }
+    ensures { after (reply_of result locations.new terminals.new) (world (site current.new list.new table.new) locations.new terminals.new (length scratch.old)) ≡ respond (world (site current.old list.old table.old) locations.old terminals.old (length scratch.old)) line.now }
 {
     match commands::parse(line)? {
         Command::Open { key, k, n } => open(current, key, k, n, list),
@@ -112,8 +113,8 @@ pub(crate) fn answer(
 )
     requires { HasRoom text.old (room_for locations.old) }
     ensures lent { SameList text.old text.new }
-    ensures world_after { world (site current.new list.new table.new) locations.new terminals.new (length scratch.old) ≡ (respond (world (site current.old list.old table.old) locations.old terminals.old (length scratch.old)) line.now).world }
-    ensures says { Puts text.old (text_of (respond (world (site current.old list.old table.old) locations.old terminals.old (length scratch.old)) line.now).reply) text.new }
+    ensures world_after { world (site current.new list.new table.new) locations.new terminals.new (length scratch.old) ≡ (respond (world (site current.old list.old table.old) locations.old terminals.old (length scratch.old)) line.now).left }
+    ensures says { Puts text.old (text_of (respond (world (site current.old list.old table.old) locations.old terminals.old (length scratch.old)) line.now).answer) text.new }
 {
     let reply = act(current, line, list, table, locations, terminals, scratch);
     texts::push_reply(text, reply, locations, terminals);

@@ -66,8 +66,8 @@ impl Session {
         ensures held { self.new.held ≡ self.old.held }
         ensures memory_lent { SameLists memory.old memory.new }
         ensures text_lent { SameList text.old text.new }
-        ensures world_after { world_of self.new memory.new ≡ (respond (world_of self.old memory.old) bytes.now).world }
-        ensures says { Puts text.old (text_of (respond (world_of self.old memory.old) bytes.now).reply) text.new }
+        ensures world_after { world_of self.new memory.new ≡ (respond (world_of self.old memory.old) bytes.now).left }
+        ensures says { Puts text.old (text_of (respond (world_of self.old memory.old) bytes.now).answer) text.new }
     {
         calls::answer(
             &mut self.current,

@@ -4,7 +4,7 @@ ghost use Rattle.std.proofs.Math.Option.{some};
 ghost use Rattle.rounds.specs.Ledgers.{sheet};
 ghost use Rattle.rounds.specs.Plans.{sheets};
 ghost use Rattle.fields.specs.Texts.{HasRoom, SameList, Puts, PutsFirst};
-ghost use Rattle.lines.specs.Replies.{place_line, place_lines, text_of};
+ghost use Rattle.lines.specs.Replies.{place_line, place_lines, reply_text, text_of};
 ghost use Rattle.lines.specs.InnerLines.{admitted_reply, line_of, reply_of};
 
 use answers::Refusal;
@@ -23,7 +23,7 @@ pub enum Accepted {
 
 fn push_admitted(text: &mut Text, exchange: Option<Exchange>)
     ensures lent { SameList text.old text.new }
-    ensures puts { PutsFirst text.old (text_of (admitted_reply exchange)) text.new }
+    ensures puts { PutsFirst text.old (reply_text (admitted_reply exchange)) text.new }
 {
     let Some(Exchange { enters, leaves }) = exchange else {
         text.push_bytes(b"none\n");
@@ -58,7 +58,7 @@ fn push_plan(text: &mut Text, locations: &[u32], terminals: &[u32], k: u32)
 
 fn push_answer(text: &mut Text, answer: Accepted, locations: &[u32], terminals: &[u32])
     ensures lent { SameList text.old text.new }
-    ensures puts { PutsFirst text.old (text_of (line_of answer locations.now terminals.now)) text.new }
+    ensures puts { PutsFirst text.old (reply_text (line_of answer locations.now terminals.now)) text.new }
 {
     match answer {
         Accepted::Opened => text.push_bytes(b"opened\n"),

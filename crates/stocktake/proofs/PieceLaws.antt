@@ -11,12 +11,13 @@ use Rattle.std.specs.Io.KnownBytes.{Appends, Consumes, IsAtEnd}
 use Rattle.std.proofs.KnownBytes.{Appends-nil, Appends-trans, Consumes-nil, Consumes-trans, Consumes-whole}
 use Rattle.answers.specs.declared.Refusal.{Refusal}
 use Rattle.answers.specs.Refusals.{number}
+use Rattle.answers.specs.Answers.{After}
 use Rattle.lists.proofs.Writing.{written_take}
 use Rattle.lines.specs.declared.sessions.Session.{Session}
 use Rattle.lines.specs.declared.sessions.Fed.{Fed}
 use Rattle.fields.specs.Lines.{lines_of}
 use Rattle.lines.specs.Sessions.{World, answers}
-use Rattle.lines.specs.Streams.{Progress, progress, AfterFeed, after_call, feed_call, end_call}
+use Rattle.lines.specs.Streams.{Progress, progress, after_call, feed_call, end_call, FeedMemory, Count}
 use Rattle.lines.specs.Inputs.{fed, ended, Fits}
 use Rattle.lines.proofs.StreamLaws.{behind, fed_behind, ended_behind, fed_append, fed_few, ended_bare, input_answers}
 use Rattle.lines.proofs.PartLaws.{feed_feeds, feed_within, feed_text, finish_ends, finish_within, feed_not_refused, finish_not_refused}
@@ -46,30 +47,30 @@ module _ (w : World) (line : List ℕ) (m : ℕ) (out : List ℕ) (fits : Fits m
 
   pub feed_accepted : (piece : List ℕ) (why : Refusal) (s : Session) (w' : World) (line' out' : List ℕ)
       → after_call (Err why) s w' line' out' ≡ feed_call w line m piece out → ⊥
-  feed_accepted piece why s w' line' out' is = feed_not_refused w line m piece out fits (number why) (sym (ap (λ (a : AfterFeed). a.answer) is))
+  feed_accepted piece why s w' line' out' is = feed_not_refused w line m piece out fits (number why) (sym (ap (λ (a : After FeedMemory Count). a.answer) is))
 
   pub finish_accepted : (why : Refusal) (s : Session) (w' : World) (line' out' : List ℕ)
       → after_call (Err why) s w' line' out' ≡ end_call w line m out → ⊥
-  finish_accepted why s w' line' out' is = finish_not_refused w line m out fits (number why) (sym (ap (λ (a : AfterFeed). a.answer) is))
+  finish_accepted why s w' line' out' is = finish_not_refused w line m out fits (number why) (sym (ap (λ (a : After FeedMemory Count). a.answer) is))
 
   module _ (f : Fed) (s : Session) (w' : World) (line' out' : List ℕ) where
     pub feed_took : (piece : List ℕ) → after_call (Ok f) s w' line' out' ≡ feed_call w line m piece out
         → (f.taken ≤ length piece) × (0 < length piece → 0 < f.taken)
     feed_took piece is =
-        let done = feed_feeds w line m piece out f.taken f.put (sym (ap (λ (a : AfterFeed). a.answer) is)) in
+        let done = feed_feeds w line m piece out f.taken f.put (sym (ap (λ (a : After FeedMemory Count). a.answer) is)) in
         (done.inside, done.some)
 
     module _ (kept : length line' ≡ length line) (same : length w'.locations ≡ length w.locations) (long : length out' ≡ length out) where
       pub feed_stepped : (piece : List ℕ) → 0 < length piece → after_call (Ok f) s w' line' out' ≡ feed_call w line m piece out
           → Stepped start (take f.taken piece) s.held line' w' out' f.put
       feed_stepped piece p is =
-          let done = feed_feeds w line m piece out f.taken f.put (sym (ap (λ (a : AfterFeed). a.answer) is)) in
+          let done = feed_feeds w line m piece out f.taken f.put (sym (ap (λ (a : After FeedMemory Count). a.answer) is)) in
           let t = take f.taken piece in
           let n : length t ≡ f.taken = length-take-le f.taken piece done.inside in
           let all : fed start t ≡ taken_in start t = sym (taken_some start t (omega (arith, n, done.some p))) in
-          let o : out' ≡ (feed_call w line m piece out).out = ap (λ (a : AfterFeed). a.out) is in
+          let o : out' ≡ (feed_call w line m piece out).left.out = ap (λ (a : After FeedMemory Count). a.left.out) is in
           let few : length (take m line) ≤ 81 = omega (arith, fits.held, length-take m line) in
-          let size : s.held ≡ length (fed start t).held = ap (λ (a : AfterFeed). a.size) is ∙ done.size_is ∙ ap length done.held_is in
+          let size : s.held ≡ length (fed start t).held = ap (λ (a : After FeedMemory Count). a.size) is ∙ done.size_is ∙ ap length done.held_is in
           record {
             fits = record {
               held = omega (arith, size, fed_few start t few);
@@ -77,16 +78,16 @@ module _ (w : World) (line : List ℕ) (m : ℕ) (out : List ℕ) (fits : Fits m
               out = omega (arith, same, long, fits.out);
             };
             within = omega (arith, feed_within done (sym (ap length o) ∙ long), long);
-            stands = (λ i. progress ((ap (λ (a : AfterFeed). a.world) is ∙ done.world_is) i) ((ap (λ (a : AfterFeed). a.held) is ∙ done.held_is) i) [])
+            stands = (λ i. progress ((ap (λ (a : After FeedMemory Count). a.world) is ∙ done.world_is) i) ((ap (λ (a : After FeedMemory Count). a.held) is ∙ done.held_is) i) [])
                 ∙ ap emptied all;
             text = ap (take f.put) o ∙ feed_text done ∙ ap (λ (x : Progress). x.text) all;
           }
 
       pub finish_stepped : after_call (Ok f) s w' line' out' ≡ end_call w line m out → Stepped start [] s.held line' w' out' f.put
       finish_stepped is =
-          let done = finish_ends w line m out f.taken f.put (sym (ap (λ (a : AfterFeed). a.answer) is)) in
-          let o : out' ≡ (end_call w line m out).out = ap (λ (a : AfterFeed). a.out) is in
-          let none : take s.held line' ≡ [] = ap (λ (a : AfterFeed). a.held) is ∙ done.held_is in
+          let done = finish_ends w line m out f.taken f.put (sym (ap (λ (a : After FeedMemory Count). a.answer) is)) in
+          let o : out' ≡ (end_call w line m out).left.out = ap (λ (a : After FeedMemory Count). a.left.out) is in
+          let none : take s.held line' ≡ [] = ap (λ (a : After FeedMemory Count). a.held) is ∙ done.held_is in
           record {
             fits = record {
               held = omega (arith, ap length none, length-take s.held line', kept, fits.line);
@@ -94,7 +95,7 @@ module _ (w : World) (line : List ℕ) (m : ℕ) (out : List ℕ) (fits : Fits m
               out = omega (arith, same, long, fits.out);
             };
             within = omega (arith, finish_within done (sym (ap length o) ∙ long), long);
-            stands = λ i. progress ((ap (λ (a : AfterFeed). a.world) is ∙ done.world_is) i) ((none ∙ sym (ended_bare w (take m line) [])) i) [];
+            stands = λ i. progress ((ap (λ (a : After FeedMemory Count). a.world) is ∙ done.world_is) i) ((none ∙ sym (ended_bare w (take m line) [])) i) [];
             text = ap (take f.put) (o ∙ done.out_is) ∙ written_take f.put (ended start).text out (sym done.put_is);
           }
 

@@ -2,15 +2,15 @@
 -- Assumes nothing.
 use mathlib.Core.Path.{◌∙◌}
 use Rattle.fields.proofs.PutLaws.{first_then}
-use Rattle.lines.specs.Replies.{text_of}
+use Rattle.lines.specs.Replies.{reply_text}
 use Rattle.lines.proofs.texts.push_admitted.Goals as goal
 
 pub returns-in_default-clause-puts : goal.returns-in_default-clause-puts
-unfolding text_of
+unfolding reply_text
 returns-in_default-clause-puts c = rw c.in_default.is c.push_bytes.ensures.puts
 
 pub returns-clause-puts : goal.returns-clause-puts
-unfolding text_of
+unfolding reply_text
 returns-clause-puts c =
     let a = c.push_bytes-2.ensures in
     let b = c.push_tabbed.ensures in

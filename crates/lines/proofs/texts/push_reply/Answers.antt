@@ -7,6 +7,7 @@ use Rattle.lines.proofs.ReplyLaws.{length_answer, length_refused}
 use Rattle.lines.proofs.texts.push_reply.Goals as goal
 
 pub returns-in-Ok-clause-puts : goal.returns-in-Ok-clause-puts
+unfolding text_of
 returns-in-Ok-clause-puts c =
     let a = c.args in
     rw c.in-Ok.is (whole_first (omega (arith, c.requires, length_answer c.in-Ok.answer a.locations.now a.terminals.now)) c.push_answer.ensures.puts)
