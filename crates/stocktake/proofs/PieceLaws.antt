@@ -70,7 +70,7 @@ module _ (w : World) (line : List ℕ) (m : ℕ) (out : List ℕ) (fits : Fits m
           let all : fed start t ≡ taken_in start t = sym (taken_some start t (omega (arith, n, done.some p))) in
           let o : out' ≡ (feed_call w line m piece out).left.out = ap (λ (a : After FeedMemory Count). a.left.out) is in
           let few : length (take m line) ≤ 81 = omega (arith, fits.held, length-take m line) in
-          let size : s.held ≡ length (fed start t).held = ap (λ (a : After FeedMemory Count). a.size) is ∙ done.size_is ∙ ap length done.held_is in
+          let size : s.held ≡ length (fed start t).held = ap (λ (a : After FeedMemory Count). a.left.size) is ∙ done.size_is ∙ ap length done.held_is in
           record {
             fits = record {
               held = omega (arith, size, fed_few start t few);
@@ -78,7 +78,7 @@ module _ (w : World) (line : List ℕ) (m : ℕ) (out : List ℕ) (fits : Fits m
               out = omega (arith, same, long, fits.out);
             };
             within = omega (arith, feed_within done (sym (ap length o) ∙ long), long);
-            stands = (λ i. progress ((ap (λ (a : After FeedMemory Count). a.world) is ∙ done.world_is) i) ((ap (λ (a : After FeedMemory Count). a.held) is ∙ done.held_is) i) [])
+            stands = (λ i. progress ((ap (λ (a : After FeedMemory Count). a.left.world) is ∙ done.world_is) i) ((ap (λ (a : After FeedMemory Count). a.left.held) is ∙ done.held_is) i) [])
                 ∙ ap emptied all;
             text = ap (take f.put) o ∙ feed_text done ∙ ap (λ (x : Progress). x.text) all;
           }
@@ -87,7 +87,7 @@ module _ (w : World) (line : List ℕ) (m : ℕ) (out : List ℕ) (fits : Fits m
       finish_stepped is =
           let done = finish_ends w line m out f.taken f.put (sym (ap (λ (a : After FeedMemory Count). a.answer) is)) in
           let o : out' ≡ (end_call w line m out).left.out = ap (λ (a : After FeedMemory Count). a.left.out) is in
-          let none : take s.held line' ≡ [] = ap (λ (a : After FeedMemory Count). a.held) is ∙ done.held_is in
+          let none : take s.held line' ≡ [] = ap (λ (a : After FeedMemory Count). a.left.held) is ∙ done.held_is in
           record {
             fits = record {
               held = omega (arith, ap length none, length-take s.held line', kept, fits.line);
@@ -95,7 +95,7 @@ module _ (w : World) (line : List ℕ) (m : ℕ) (out : List ℕ) (fits : Fits m
               out = omega (arith, same, long, fits.out);
             };
             within = omega (arith, finish_within done (sym (ap length o) ∙ long), long);
-            stands = λ i. progress ((ap (λ (a : After FeedMemory Count). a.world) is ∙ done.world_is) i) ((none ∙ sym (ended_bare w (take m line) [])) i) [];
+            stands = λ i. progress ((ap (λ (a : After FeedMemory Count). a.left.world) is ∙ done.world_is) i) ((none ∙ sym (ended_bare w (take m line) [])) i) [];
             text = ap (take f.put) (o ∙ done.out_is) ∙ written_take f.put (ended start).text out (sym done.put_is);
           }
 
