@@ -7,3 +7,5 @@ pub mod CutLaws
 pub mod PieceLaws
 pub mod InputLaws
 pub mod KeyLaws
+pub mod TabLaws
+pub mod Examples

@@ -9,3 +9,5 @@ pub mod PartLaws
 pub mod RunLaws
 pub mod LedgerLaws
 pub mod RefusedLaws
+pub mod CallLaws
+pub mod CallExamples

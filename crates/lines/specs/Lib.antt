@@ -8,3 +8,4 @@ pub mod RefusedBy
 pub mod InnerLines
 pub mod InnerSessions
 pub mod Plans
+pub mod CallTexts

@@ -2,6 +2,7 @@
 // cut into lines, whatever pieces it comes in.
 #![tactic(auto)]
 
+pub mod call_texts;
 mod calls;
 pub mod commands;
 pub mod sessions;
