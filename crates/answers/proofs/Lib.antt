@@ -3,3 +3,4 @@ pub mod BackLaws
 pub mod Spared
 pub mod Turns
 pub mod MakingLaws
+pub mod RefusedLaws

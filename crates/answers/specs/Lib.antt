@@ -3,3 +3,4 @@ pub mod Refusals
 pub mod Refusing
 pub mod Steps
 pub mod Making
+pub mod RefusedBy

@@ -9,6 +9,7 @@ use Prim.Native.Nat.{ℕ, zero, suc, ◌-◌, ◌^◌, ◌≤◌}
 use borrow.Author.Tests.{le-ltb}
 use lib.Dec.{ltb, eqb}
 use lib.ListN.{length}
+use Rattle.answers.proofs.RefusedLaws as answers
 use Rattle.answers.proofs.MakingLaws.{sizes_by}
 use Rattle.answers.specs.Answers.{Answer, map_answer, After, refused}
 use Rattle.answers.specs.Steps.{Step}
@@ -75,12 +76,7 @@ module _ (o : ConsistentPermutation) where
 
 -- the refusal of an open for which some memory is too short
 pub short_refuses : (k n : ℕ) → has (short_refusal (2 ^ 30) 1 k n) open_refusals ≡ true
-unfolding has same
-short_refuses k n =
-    sizes_by (2 ^ 30) 1 k n Is (λ w. w) 4 (λ y. refl) (λ y. refl) (λ y. refl) (λ s. refl)
-  where
-    Is : ℕ → Type 0
-    Is w = has w open_refusals ≡ true
+short_refuses k n = answers.short_refuses (2 ^ 30) 1 k n
 
 pub open_refuses : (k n key : ℕ) (l : List ℕ) → let a = open_call k n key l in Spares open_refusals a.answer l a.left
 unfolding open_call has same
