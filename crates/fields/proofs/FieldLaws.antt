@@ -1,14 +1,11 @@
--- A line's fields, as std's iterator over the parts between tabs yields them; and whether two fields are the same bytes.
+-- A line's fields, as std's iterator over the parts between tabs yields them, and as they are read off the promise of `apart`.
 -- Assumes nothing.
-use Rattle.std.proofs.Common.{◌≡◌, refl, sym, ap, ◌∙◌, List, [], ◌∷◌, ◌++◌, append_assoc, append-nil, ℕ, Bool, true, false, Option, Some, None}
-use mathlib.Core.Path.{subst}
-use mathlib.Core.Bool.{◌&&◌, not, not-not}
-use lib.Dec.{eqb}
+use Rattle.std.proofs.Common.{◌≡◌, refl, sym, ap, ◌∙◌, List, [], ◌∷◌, ◌++◌, append_assoc, append-nil, ℕ, ◌<◌, ◌≤◌, Bool, true, false, Option, Some, None}
+use borrow.Author.Tests.{le-leb, lt-leb, leb-false}
+use lib.Dec.{eqb, leb}
 use lib.ListN.{length}
-use Rattle.std.proofs.Common.{rules}
-use Rattle.std.specs.Cmp.Lexicographic.{pointwise}
-use Rattle.std.proofs.lemmas.Slice.Eq.{compares_Decides, HasBytesAt}
-use Rattle.lists.proofs.Tests.{by_test as by_bool}
+use Rattle.std.proofs.Math.Option as maybe
+use Rattle.std.proofs.Math.Option.{none, some}
 use Rattle.std.specs.Option.{is_some}
 use Rattle.std.specs.List.{slice_split, onto_first}
 use denote.Ref.{Bor}
@@ -17,7 +14,9 @@ use Rattle.std.specs.Fn.{ComputesKey, CalledAt}
 use Rattle.std.specs.Slice.Iter.{split_steps, split_rest, split_done, split_callee}
 use Rattle.std.proofs.lemmas.Iterator.{YieldsList}
 use Rattle.std.proofs.lemmas.Iterator.Splits.{YieldsList-from_slice_split}
-use Rattle.fields.specs.Lines.{onto, fields, alike}
+use Rattle.lists.proofs.Tests.{by_cond}
+use Rattle.fields.specs.Lines.{onto, fields}
+use Rattle.fields.specs.Parts.{at_most_four}
 
 -- ---- calls of an iterator
 
@@ -83,22 +82,24 @@ pub fields_split : (l : List ℕ) → slice_split (λ b. eqb b 9) l ≡ fields l
 fields_split [] = refl
 fields_split (b ∷ l) = rw (fields_split l, onto_same b (fields l))
 
--- ---- the same bytes
+-- so the fields are known by them,
+pub parts_are : (l : List ℕ) (fs : List (List ℕ)) → slice_split (λ b. eqb b 9) l ≡ fs → length fs ≤ 4 → some fs ≡ at_most_four (fields l)
+unfolding at_most_four
+parts_are l fs e h = rw (← fields_split l, e, le-leb (length fs) 4 h)
 
--- as `!=` tells,
-alike_eq : (w p : List ℕ) → alike w p ≡ pointwise eqb w p
-alike_eq [] [] = refl
-alike_eq [] (y ∷ p) = refl
-alike_eq (x ∷ w) [] = refl
-alike_eq (x ∷ w) (y ∷ p) = ap (λ (r : Bool). eqb x y && r) (alike_eq w p)
+-- and more than four are too many
+pub parts_more : (l : List ℕ) (fs : List (List ℕ)) → slice_split (λ b. eqb b 9) l ≡ fs → 4 < length fs → none ≡ at_most_four (fields l)
+unfolding at_most_four
+parts_more l fs e h = rw (← fields_split l, e, lt-leb (length fs) 4 h)
 
-pub alike_ne : (w s p : List ℕ) (b : Bool) → b ≡ not (pointwise eqb w s) → s ≡ p → alike w p ≡ not b
-alike_ne w s p b e same = rw (e, ← same, alike_eq w s) (sym (not-not (pointwise eqb w s)))
+-- ---- what is read off a promise
 
--- and as an arm of a `match` does
-pub alike_not : (w p : List ℕ) → HasBytesAt p 0 p → (length w ≡ length p → HasBytesAt w 0 p → ⊥) → alike w p ≡ false
-alike_not w p self n =
-    by_bool (alike w p)
-    (λ y. let e : w ≡ p = (compares_Decides alike (search rules) w p).0 y in
-    absurd (n (ap length e) (subst (λ (l : List ℕ). HasBytesAt l 0 p) (sym e) self)))
-    (λ m. m)
+pub listed_are : (fs gs : List (List ℕ)) → some gs ≡ at_most_four fs → fs ≡ gs
+unfolding at_most_four
+listed_are fs gs =
+    by_cond (λ (o : maybe.Option (List (List ℕ))). some gs ≡ o → fs ≡ gs) (leb (length fs) 4) _ _ (λ y e. cc) (λ n e. cc)
+
+pub listed_more : (fs : List (List ℕ)) → none ≡ at_most_four fs → 4 < length fs
+unfolding at_most_four
+listed_more fs =
+    by_cond (λ (o : maybe.Option (List (List ℕ))). none ≡ o → 4 < length fs) (leb (length fs) 4) _ _ (λ y e. cc) (λ n e. leb-false (length fs) 4 n)

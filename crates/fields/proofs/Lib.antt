@@ -1,5 +1,6 @@
 pub mod NumberLaws
 pub mod FieldLaws
+pub mod AlikeLaws
 pub mod DecimalLaws
 pub mod ReadBackLaws
 pub mod PutLaws

@@ -25,6 +25,7 @@ pub record AfterCut : Type 0 where
   pub cut : Cutting
   pub line : List ℕ
 
+-- as such a record
 abbrev pub after_cut : Cutting → List ℕ → AfterCut
 after_cut c l = record { cut = c; line = l }
 
@@ -40,18 +41,21 @@ cut_call piece m line =
     (after_cut (Whole (length bytes) (suc e)) line)
     (after_cut (Joined (length bytes) (suc e)) (written bytes line)))
 
--- ---- what a cut gives: how much was taken, the line if one ended, and how many bytes are held
+-- ---- what a cut gives
 
+-- how many bytes of the piece
 abbrev pub taken_by : Cutting → List ℕ → ℕ
 taken_by (Open held) piece = length piece
 taken_by (Whole size taken) piece = taken
 taken_by (Joined size taken) piece = taken
 
+-- the line, in the piece or in the list
 abbrev pub line_of : Cutting → List ℕ → List ℕ → List (List ℕ)
 line_of (Open held) piece line = []
 line_of (Whole size taken) piece line = take size piece ∷ []
 line_of (Joined size taken) piece line = take size line ∷ []
 
+-- how many bytes of a line that has not ended
 abbrev pub held_by : Cutting → ℕ
 held_by (Open held) = held
 held_by (Whole size taken) = 0

@@ -4,3 +4,4 @@ pub mod Printing
 pub mod Texts
 pub mod Cuts
 pub mod Inputs
+pub mod Parts

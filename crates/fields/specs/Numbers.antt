@@ -22,6 +22,7 @@ value_of base sum (b ∷ l) =
     let rest = value_of base (sum * base + digit_of b) l in
     cond (ltb (digit_of b) base) rest none
 
+-- a number "below 2^32", or none
 abbrev pub below32 : Option ℕ → Option ℕ
 below32 none = none
 below32 (some v) = cond (ltb v (2 ^ 32)) (some v) none

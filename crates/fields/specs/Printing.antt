@@ -17,6 +17,7 @@ decimal_of n = spell 10 n []
 unfoldable pub tabbed : ℕ → List ℕ
 tabbed n = (9 ∷ []) ++ decimal_of n
 
+-- "Lines end in a line feed"
 abbrev pub line_end : List ℕ
 line_end = 10 ∷ []
 

@@ -4,4 +4,5 @@
 pub mod cuts;
 pub mod inputs;
 pub mod numbers;
+pub mod parts;
 pub mod texts;

@@ -1,23 +1,25 @@
 -- Laws of a line taken apart: its words, and what it asks for.
 -- Assumes nothing.
-use mathlib.Core.Path.{◌≡◌, refl, sym, ap, ◌∙◌}
-use mathlib.Core.List.{List, ◌∷◌}
+use mathlib.Core.Path.{◌≡◌, refl, sym, ap}
+use mathlib.Core.List.{List, [], ◌∷◌}
 use Prim.Native.Nat.{ℕ, ◌≤◌, ◌<◌}
 use native.Mathlib.Omega.{arith}
 use borrow.Author.Tests.{lt-leb, le-leb}
-use lib.Dec.{eqb}
 use lib.ListN.{length, take, length-take}
 use lib.Seq.{take_all}
 use Rattle.std.specs.Prelude.{Option, Some, None}
 use Rattle.std.specs.Option.{ok_or}
-use Rattle.std.specs.List.{slice_split}
+use Rattle.std.proofs.Math.Option.{none, some}
 use Rattle.std.proofs.Common.{rules}
 use Rattle.std.proofs.lemmas.Slice.Eq.{HasBytesAt, text_from_reads}
 use Rattle.answers.specs.Refusals.{answer_of}
 use Rattle.answers.specs.declared.Refusal.TheVariants.{Misfit}
 use Rattle.answers.specs.Answers.{refusal, result}
 use Rattle.lists.proofs.Tests.{by_below}
-use Rattle.fields.proofs.FieldLaws.{alike_not, fields_split}
+use Rattle.fields.specs.Lines.{fields}
+use Rattle.fields.specs.Parts.{at_most_four}
+use Rattle.fields.proofs.AlikeLaws.{alike_not}
+use Rattle.fields.proofs.FieldLaws.{listed_are, listed_more}
 use Rattle.lines.specs.declared.commands.Command.{Command}
 use Rattle.lines.specs.declared.commands.Command.TheVariants.{Admit, Join, Plan}
 use Rattle.lines.specs.Commands.{word_alone, admit_word, join_word, plan_word, by_fields, command_of}
@@ -45,14 +47,24 @@ module _ (w : List ℕ) where
 
 -- ---- fields
 
--- what a line asks for is known by the parts that `split` cuts at tabs,
-pub command_split : (l : List ℕ) (fs : List (List ℕ)) → length l ≤ 80 → slice_split (λ b. eqb b 9) l ≡ fs → by_fields fs ≡ command_of l
-unfolding command_of
-command_split l fs h e = rw (le-leb (length l) 80 h) (ap by_fields (sym e ∙ fields_split l))
+module _ (l : List ℕ) (short : length l ≤ 80) where
+  -- a line's fields are read off the promise of the call that takes it apart; they tell what it asks for,
+  pub command_fields : (fs : List (List ℕ)) → some fs ≡ at_most_four (fields l) → by_fields fs ≡ command_of l
+  unfolding command_of
+  command_fields fs e = rw (le-leb (length l) 80 short) (ap by_fields (sym (listed_are (fields l) fs e)))
 
--- and five are too many
-pub command_many : (l w a b c d : List ℕ) (fs : List (List ℕ)) → length l ≤ 80 → slice_split (λ b. eqb b 9) l ≡ w ∷ a ∷ b ∷ c ∷ d ∷ fs → refusal 12 ≡ command_of l
-command_many l w a b c d fs h e = command_split l (w ∷ a ∷ b ∷ c ∷ d ∷ fs) h e
+  -- and more than four are too many
+  pub command_more : none ≡ at_most_four (fields l) → refusal 12 ≡ command_of l
+  unfolding command_of
+  command_more e = rw (le-leb (length l) 80 short) (sym (many (fields l) (listed_more (fields l) e)))
+    where
+      many : (fs : List (List ℕ)) → 4 < length fs → by_fields fs ≡ refusal 12
+      many [] h = absurd (omega arith)
+      many (a ∷ []) h = absurd (omega arith)
+      many (a ∷ b ∷ []) h = absurd (omega arith)
+      many (a ∷ b ∷ c ∷ []) h = absurd (omega arith)
+      many (a ∷ b ∷ c ∷ d ∷ []) h = absurd (omega arith)
+      many (a ∷ b ∷ c ∷ d ∷ e ∷ more) h = refl
 
 -- ---- what a line asks for
 

@@ -5,7 +5,8 @@ ghost use Rattle.lines.specs.Commands.{word_alone, word_and_one, word_and_three,
 ghost use Rattle.lines.specs.InnerLines.{answer_of_form};
 
 use answers::Refusal;
-use fields::numbers;
+use fields::parts::Fields;
+use fields::{numbers, parts};
 
 // What a line asks for.
 #[derive(Clone, Copy, Debug, PartialEq, Eq)]
@@ -58,19 +59,13 @@ fn form(line: &[u8]) -> Option<Command>
     if line.len() > 80 {
         return None;
     }
-    let mut fields = line.split(|byte| *byte == b'\t');
-    let word = fields.next()?;
-    let Some(a) = fields.next() else {
-        return alone(word);
-    };
-    let Some(b) = fields.next() else {
-        return with_one(word, a);
-    };
-    let c = fields.next()?;
-    if fields.next().is_some() {
-        return None;
+    match parts::apart(line) {
+        Fields::One(word) => alone(word),
+        Fields::Two(word, slot) => with_one(word, slot),
+        Fields::Four(word, key, k, n) => with_three(word, key, k, n),
+        Fields::Three(_, _, _) => None,
+        Fields::More => None,
     }
-    with_three(word, a, b, c)
 }
 
 // What a line asks for: refusal 12.

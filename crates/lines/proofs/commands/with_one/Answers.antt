@@ -4,7 +4,7 @@ use mathlib.Core.Path.{ap, ◌∙◌}
 use mathlib.Core.Bool.{not}
 use Rattle.lines.specs.Commands.{word_and_one, withdraw_word}
 use Rattle.lines.specs.InnerLines.{answer_of_form}
-use Rattle.fields.proofs.FieldLaws.{alike_ne}
+use Rattle.fields.proofs.AlikeLaws.{alike_ne}
 use Rattle.lines.proofs.commands.with_one.Goals as goal
 
 pub returns-then-ne : goal.returns-then-ne

@@ -5,7 +5,7 @@ use mathlib.Core.Bool.{not, true}
 use Rattle.fields.specs.Lines.{alike}
 use Rattle.lines.specs.Commands.{word_and_three, open_word}
 use Rattle.lines.specs.InnerLines.{answer_of_form}
-use Rattle.fields.proofs.FieldLaws.{alike_ne}
+use Rattle.fields.proofs.AlikeLaws.{alike_ne}
 use Rattle.lines.proofs.commands.with_three.Goals as goal
 use Rattle.lines.proofs.commands.with_three.Goals.{Else-ne}
 
