@@ -12,7 +12,7 @@ use lib.Dec.{ltb, eqb}
 use lib.ListN.{length, take, get_or}
 use lib.Seq.{get_or-take}
 use mathlib.Core.Option as maybe
-use Rattle.answers.specs.Answers.{Answer, refusal, result}
+use Rattle.answers.specs.Answers.{Answer, result}
 use Rattle.answers.proofs.AnswerLaws.{not_said}
 use Rattle.lists.specs.Lists.{keep, zero_to, written}
 use Rattle.lists.proofs.Tests.{by_test, by_cond}
@@ -21,7 +21,6 @@ use Rattle.lists.proofs.Listing.{map_places}
 use Rattle.orders.specs.Orders.{P}
 use Rattle.orders.proofs.CheckLaws.{fits_parts}
 use Rattle.orders.proofs.ReservoirLaws.{sample_is}
-use Rattle.choosers.specs.Slots.{holder}
 use Rattle.choosers.specs.SlotCalls.{slot_limit}
 use Rattle.choosers.proofs.SlotLaws.{holder_slot}
 use Rattle.choosers.proofs.GetLaws.{look_all}

@@ -1,9 +1,8 @@
 -- `rounds::sheets::Sampled::next` meets its contract.
 -- Assumes nothing.
-use mathlib.Core.Path.{◌≡◌, sym, ap, ◌∙◌}
+use mathlib.Core.Path.{sym, ap, ◌∙◌}
 use native.Mathlib.Omega.{arith}
 use lib.ListN.{length}
-use Rattle.rounds.specs.InnerRounds.{still_sampled}
 use Rattle.rounds.proofs.DealLaws.{sampled_next, sampled_past}
 use Rattle.rounds.proofs.sheets.SampledIterator.next.Goals as goal
 
