@@ -3,40 +3,59 @@
 -- Assumes nothing.
 use mathlib.Core.Path.{◌≡◌, refl, sym, ap, ◌∙◌}
 use mathlib.Core.Logic.{◌⊎◌, inl, inr, ⊎_elim, ◌≢◌}
-use mathlib.Core.Bool.{Bool, true}
+use mathlib.Core.Bool.{Bool, true, false}
 use mathlib.Core.List.{List, [], ◌∷◌}
 use mathlib.Core.Option.{none, some}
-use Prim.Native.Nat.{ℕ, ◌≤◌, ◌<◌}
+use Prim.Native.Nat.{ℕ, ◌≤◌, ◌<◌, max}
 use native.Mathlib.Omega.{arith}
 use Rattle.lists.specs.Lists.{keep, below, has, zero_to, largest, find, without}
 use Rattle.lists.proofs.Tests.{below_yes, by_test}
-use Rattle.lists.proofs.Keeping.{Stronger}
 use Rattle.lists.proofs.Members.{has_yes, has_no, has→occurrences}
 use Rattle.lists.proofs.Extremes.{by_max, extreme_of}
-use Rattle.lists.proofs.Having.{has_tail, has_more, has_again, has_out, has_others, has_fewer}
+use Rattle.lists.proofs.Having.{has_tail, has_again, has_out, has_others}
 use Rattle.lists.proofs.Finding.{find_passes, find_some, find_none, find_keep, find_same, find_removed, find_added}
 use Rattle.choosers.specs.Choosers.{Q}
 use Rattle.choosers.specs.Slots.{active, actives, holder, one_above, slot_among}
-use Rattle.lists.proofs.Ranges.{Within, within_lt, has_kept}
+use Rattle.lists.proofs.Ranges.{Within, has_kept}
 use Rattle.choosers.proofs.OrderLaws.{Q_keep, Q_once}
-use Rattle.choosers.proofs.TableLaws.{active_over, active→}
+use Rattle.choosers.proofs.ActiveLaws.{active_within}
 
 -- ---- any test
 
-module _ (s : ℕ) (p : ℕ → Bool) where
-  -- The first of Q(m) that passes is the first of Q(c) for any larger count c, as long as none from m up passes.
-  pub first_any : (m c : ℕ) → Stronger p (below m) → m ≤ c → find p (Q s c) ≡ find p (Q s m)
-  first_any m c b h = sym (find_keep p (below m) b (Q s c)) ∙ ap (find p) (Q_keep s m c h)
+module _ (s : ℕ) where
+  -- The first of Q(m) that passes is the first of Q(c) for any larger count c, as long as what passes is below m.
+  pub first_any : (p : ℕ → Bool) (m c : ℕ) → Within p m → m ≤ c → find p (Q s c) ≡ find p (Q s m)
+  first_any p m c w h = sym (find_keep p (below m) (λ x y. below_yes x m (w x y)) (Q s c)) ∙ ap (find p) (Q_keep s m c h)
 
   -- Where a number below the count passes, one is found.
-  pub first_some : (c x : ℕ) → x < c → p x ≡ true → find p (Q s c) ≢ none
-  first_some c x h y = find_some p (Q s c) x (omega (arith, Q_once s c x h)) y
+  pub first_some : (p : ℕ → Bool) (c x : ℕ) → x < c → p x ≡ true → find p (Q s c) ≢ none
+  first_some p c x h y = find_some p (Q s c) x (omega (arith, Q_once s c x h)) y
+
+  -- Two tests that agree but for x, each with a count that its numbers are below: they find the same,
+  module _ (p q : ℕ → Bool) (c d x : ℕ) (wp : Within p c) (wq : Within q d) (rest : (y : ℕ) → y ≢ x → p y ≡ q y) where
+    p_high : find p (Q s (max c d)) ≡ find p (Q s c)
+    p_high = first_any p c (max c d) wp (omega arith)
+
+    q_high : find q (Q s (max c d)) ≡ find q (Q s d)
+    q_high = first_any q d (max c d) wq (omega arith)
+
+    -- where x goes, unless it was found,
+    pub first_out : q x ≡ false → find p (Q s c) ≢ some x → find q (Q s d) ≡ find p (Q s c)
+    first_out n a = sym q_high ∙ find_removed p q x (Q s (max c d)) rest n (λ e. a (sym p_high ∙ e)) ∙ p_high
+
+    -- and where it comes, unless it is found.
+    pub first_put : p x ≡ false → (find q (Q s d) ≡ find p (Q s c)) ⊎ (find q (Q s d) ≡ some x)
+    first_put n =
+        ⊎_elim
+        (λ (e : find q (Q s (max c d)) ≡ find p (Q s (max c d))). inl (sym q_high ∙ e ∙ p_high))
+        (λ (e : find q (Q s (max c d)) ≡ some x). inr (sym q_high ∙ e))
+        (find_added p q x (Q s (max c d)) rest n)
 
 -- ---- a set of slots
 
 -- every one of the slots is below c
 abbrev pub Bounded : List ℕ → ℕ → Type 0
-Bounded A c = (x : ℕ) → has x A ≡ true → x < c
+Bounded A c = Within (λ x. has x A) c
 
 -- 1 + the highest of the slots is above them all, and no higher than any number that is
 above_bounded : (A : List ℕ) → Bounded A (one_above (largest A))
@@ -52,29 +71,29 @@ pub slot_any : (s c : ℕ) (A : List ℕ) → Bounded A c → find (λ x. has x 
 unfolding slot_among
 slot_any s c A b =
     let m : ℕ = one_above (largest A) in
-    first_any s (λ x. has x A) m c (λ x h. below_yes x m (above_bounded A x h)) (above_least A c b)
+    first_any s (λ x. has x A) m c (above_bounded A) (above_least A c b)
 
 -- The first of Q(c) that passes a test is the slot of those that pass.
 pub first_among : (s : ℕ) (p : ℕ → Bool) (c : ℕ) → Within p c → find p (Q s c) ≡ slot_among s (keep p (zero_to c))
 first_among s p c w =
     let A : List ℕ = keep p (zero_to c) in
     find_same p (λ x. has x A) (Q s c) (λ x h. sym (has_kept p c x w))
-    ∙ slot_any s c A (λ x h. within_lt p c x w (sym (has_kept p c x w) ∙ h))
+    ∙ slot_any s c A (λ x h. w x (sym (has_kept p c x w) ∙ h))
 
 -- ---- get's answer
 
 -- The active slots as a list have just the active slots.
 pub has_actives : (t : List ℕ) (c x : ℕ) → has x (actives t c) ≡ active t c x
 unfolding actives
-has_actives t c x = has_kept (active t c) c x (active_over t c)
+has_actives t c x = has_kept (active t c) c x (active_within t c)
 
 pub actives_bounded : (t : List ℕ) (c : ℕ) → Bounded (actives t c) c
-actives_bounded t c x h = (active→ t c x (sym (has_actives t c x) ∙ h)).0
+actives_bounded t c x h = active_within t c x (sym (has_actives t c x) ∙ h)
 
 -- Get's answer is the slot by definition, whatever the bytes from the count on are.
 pub holder_slot : (s : ℕ) (t : List ℕ) (c : ℕ) → holder s t c ≡ slot_among s (actives t c)
 unfolding holder actives
-holder_slot s t c = first_among s (active t c) c (active_over t c)
+holder_slot s t c = first_among s (active t c) c (active_within t c)
 
 -- ---- which slot it is
 
@@ -106,22 +125,15 @@ module _ (s : ℕ) where
 
   -- Taking a slot out changes the answer only where it was that slot.
   pub slot_out : (A : List ℕ) (x : ℕ) → slot_among s A ≢ some x → slot_among s (without x A) ≡ slot_among s A
+  unfolding slot_among
   slot_out A x d =
-      let m : ℕ = one_above (largest A) in
-      let before : find (λ y. has y A) (Q s m) ≡ slot_among s A = slot_any s m A (above_bounded A) in
-      sym (slot_any s m (without x A) (λ y h. above_bounded A y (has_fewer y x A h)))
-      ∙ find_removed (λ y. has y A) (λ y. has y (without x A)) x (Q s m) (λ y n. sym (has_others y x A n)) (has_out x A) (λ e. d (sym before ∙ e))
-      ∙ before
+      first_out s (λ y. has y A) (λ y. has y (without x A)) _ _ x (above_bounded A) (above_bounded (without x A))
+      (λ y n. sym (has_others y x A n)) (has_out x A) d
 
   -- Putting one in changes it only to that slot.
   pub slot_put : (A : List ℕ) (x : ℕ) → (slot_among s (x ∷ A) ≡ slot_among s A) ⊎ (slot_among s (x ∷ A) ≡ some x)
+  unfolding slot_among
   slot_put A x =
       by_test (has x A)
       (λ y. inl (slot_same (x ∷ A) A (has_again x A y)))
-      (λ n. let m : ℕ = one_above (largest (x ∷ A)) in
-      let before : find (λ y. has y A) (Q s m) ≡ slot_among s A = slot_any s m A (λ y h. above_bounded (x ∷ A) y (has_more y x A h)) in
-      let later : find (λ y. has y (x ∷ A)) (Q s m) ≡ slot_among s (x ∷ A) = slot_any s m (x ∷ A) (above_bounded (x ∷ A)) in
-      ⊎_elim
-      (λ (e : find (λ y. has y (x ∷ A)) (Q s m) ≡ find (λ y. has y A) (Q s m)). inl (sym later ∙ e ∙ before))
-      (λ (e : find (λ y. has y (x ∷ A)) (Q s m) ≡ some x). inr (sym later ∙ e))
-      (find_added (λ y. has y A) (λ y. has y (x ∷ A)) x (Q s m) (λ y d. sym (has_tail y x A d)) n))
+      (λ n. first_put s (λ y. has y A) (λ y. has y (x ∷ A)) _ _ x (above_bounded A) (above_bounded (x ∷ A)) (λ y d. sym (has_tail y x A d)) n)

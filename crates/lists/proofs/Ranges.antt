@@ -12,7 +12,7 @@ use native.Mathlib.Decide.{le_ind}
 use native.Mathlib.Omega.{arith}
 use lib.ListN.{length, take, get_or}
 use Rattle.lists.specs.Lists.{keep, occurrences, has, other, without, every, from, zero_to}
-use Rattle.lists.proofs.Tests.{same_yes, same_no, by_test, by_same, by_below}
+use Rattle.lists.proofs.Tests.{same_yes, same_no, by_test, by_same}
 use Rattle.lists.proofs.Keeping.{both, keep_keep}
 use Rattle.lists.proofs.Members.{has_yes, has_no, occurrences_keep_yes, occurrences_keep_no, keep_append, keep_passes, keep_agree}
 use Rattle.lists.proofs.Without.{other_no, other_yes}
@@ -50,15 +50,15 @@ keep_range p d c h f =
 
 -- ---- the numbers below c that pass a test, as a list
 
--- no number from c up passes
+-- what passes is below c
 abbrev pub Within : (ℕ → Bool) → ℕ → Type 0
-Within p c = (x : ℕ) → c ≤ x → p x ≡ false
+Within p c = (x : ℕ) → p x ≡ true → x < c
 
-pub within_lt : (p : ℕ → Bool) (c x : ℕ) → Within p c → p x ≡ true → x < c
-within_lt p c x w y = by_below x c (λ h. h) (λ h. absurd (true≢false (sym y ∙ w x h)))
+pub within_no : (p : ℕ → Bool) (c x : ℕ) → Within p c → c ≤ x → p x ≡ false
+within_no p c x w h = by_test (p x) (λ y. absurd (omega (arith, w x y, h))) (λ n. n)
 
 pub kept_once : (p : ℕ → Bool) (c x : ℕ) → Within p c → p x ≡ true → occurrences x (keep p (zero_to c)) ≡ 1
-kept_once p c x w y = occurrences_keep_yes p x (zero_to c) y ∙ occurrences_from x 0 c (omega arith) (omega (arith, within_lt p c x w y))
+kept_once p c x w y = occurrences_keep_yes p x (zero_to c) y ∙ occurrences_from x 0 c (omega arith) (omega (arith, w x y))
 
 -- it has just those that pass
 pub has_kept : (p : ℕ → Bool) (c x : ℕ) → Within p c → has x (keep p (zero_to c)) ≡ p x
@@ -85,7 +85,7 @@ module _ (p q : ℕ → Bool) (x d c : ℕ) (less : d ≤ c) (within : Within q 
   keep_out =
       sym (keep_agree (other x) q (keep p (zero_to c)) agrees
       ∙ keep_keep q p stays (zero_to c)
-      ∙ keep_range q d c less within)
+      ∙ keep_range q d c less (λ y h. within_no q d y within h))
 
 -- ---- every entry
 

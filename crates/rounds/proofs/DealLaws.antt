@@ -10,26 +10,19 @@ use native.Mathlib.Omega.{arith}
 use lib.ListN.{length, take, get_or, set, length-map}
 use lib.Seq.{take-suc, length-take-le}
 use Rattle.std.specs.Prelude as rust
-use denote.Ref.{Bor}
 use Rattle.std.specs.Iterator.{Yields}
 use Rattle.std.proofs.lemmas.Iterator.{YieldsList}
 use Rattle.std.proofs.lemmas.Iterator.Consumers.{YieldsList-turn, YieldsList-end}
-use Rattle.std.specs.List.{filter, enumerate_from}
+use Rattle.std.specs.List.{enumerate_from}
 use Rattle.std.proofs.lemmas.List.FromFn.{length-enumerate_from, get_or-enumerate_from}
 use Rattle.std.proofs.Math.Seq.{take-length}
-use lib.Dec.{ltb}
-use Rattle.lists.specs.Lists.{written}
+use Rattle.lists.specs.Lists.{keep, written}
 use Rattle.answers.specs.Refusals.{optional}
-use Rattle.lists.proofs.Keeping.{keep_same}
 use Rattle.lists.proofs.Writing.{written_more}
 use Rattle.orders.specs.Reservoirs.{counts}
-use Rattle.orders.proofs.CountsLaws.{counts_ltb}
-use Rattle.orders.proofs.GatherLaws.{filter_is_keep}
-use Rattle.orders.specs.ReservoirCalls.{sample}
+use Rattle.orders.proofs.CountsLaws.{counts_yes, counts_no}
 use Rattle.choosers.specs.SlotCalls.{look_up}
 use Rattle.rounds.specs.Locations.{state_of}
-use Rattle.rounds.specs.declared.round.Round.{Round}
-use Rattle.rounds.specs.Rounds.{reservoir_of}
 use Rattle.rounds.specs.InnerRounds.{dealt_to}
 
 -- ---- one location's slot
@@ -47,11 +40,14 @@ slot_found key x total places s t o e f = unwrapped o ∙ ap (λ (z : Option ℕ
 pub slot_lent : (key total : ℕ) (t : List ℕ) (x s places lent : ℕ) → s ≡ dealt_to key total t places x → places ≡ lent → s ≡ dealt_to key total t lent x
 slot_lent key total t x s places lent e h = e ∙ ap (λ (q : ℕ). dealt_to key total t q x) h
 
--- ---- the sample as the loop filters it
+-- ---- the sample as an iterator passes over the list
 
-pub filter_is_sample : (r : Round) (list : List ℕ) → filter (λ x. ltb x r.n) (take r.used list) ≡ sample (reservoir_of r) list
-unfolding sample
-filter_is_sample r list = filter_is_keep (λ x. ltb x r.n) (take r.used list) ∙ keep_same _ (counts r.n) (λ x. sym (counts_ltb r.n x)) (take r.used list)
+module _ (n x : ℕ) (xs rest : List ℕ) (is : xs ≡ x ∷ rest) where
+  pub sampled_next : x < n → keep (counts n) xs ≡ x ∷ keep (counts n) rest
+  sampled_next h = ap (keep (counts n)) is ∙ rw (counts_yes x n h)
+
+  pub sampled_past : n ≤ x → keep (counts n) xs ≡ keep (counts n) rest
+  sampled_past h = ap (keep (counts n)) is ∙ rw (counts_no x n h)
 
 -- ---- the loop
 
@@ -95,13 +91,13 @@ module _ (f : ℕ → ℕ) (xs ls ts : List ℕ) where
 from_zero : (p i : ℕ) → p ≡ 0 + i → p ≡ i
 from_zero p i e = omega (arith, e)
 
-module _ {S : Type 0} {steps : S → rust.Option (ℕ × Bor ℕ) → S → Type 0} {s : S} (xs : List ℕ) (w : YieldsList steps (λ p. (p.0, p.1.now)) s (enumerate_from 0 xs))
-    (ys : List (ℕ × Bor ℕ)) (t : S) (y : Yields steps s ys t) (u : S) where
-  pub numbered_turn : (p : ℕ) (x : Bor ℕ) → steps t (rust.Some (p, x)) u → (length ys < length xs) × (p ≡ length ys) × (x.now ≡ get_or xs (length ys) x.now)
+module _ {S : Type 0} {steps : S → rust.Option (ℕ × ℕ) → S → Type 0} {s : S} (xs : List ℕ) (w : YieldsList steps (λ p. p) s (enumerate_from 0 xs))
+    (ys : List (ℕ × ℕ)) (t : S) (y : Yields steps s ys t) (u : S) where
+  pub numbered_turn : (p x : ℕ) → steps t (rust.Some (p, x)) u → (length ys < length xs) × (p ≡ length ys) × (x ≡ get_or xs (length ys) x)
   numbered_turn p x turns =
-      let at : (length ys < length (enumerate_from 0 xs)) × ((p, x.now) ≡ get_or (enumerate_from 0 xs) (length ys) (p, x.now)) = YieldsList-turn w ys t y (rust.Some (p, x)) u (p, x) refl turns in
+      let at : (length ys < length (enumerate_from 0 xs)) × ((p, x) ≡ get_or (enumerate_from 0 xs) (length ys) (p, x)) = YieldsList-turn w ys t y (rust.Some (p, x)) u (p, x) refl turns in
       let lt : length ys < length xs = omega (arith, at.0, length-enumerate_from 0 xs) in
-      let q : (p, x.now) ≡ (0 + length ys, get_or xs (length ys) x.now) = at.1 ∙ get_or-enumerate_from 0 xs (length ys) (p, x.now) lt in
+      let q : (p, x) ≡ (0 + length ys, get_or xs (length ys) x) = at.1 ∙ get_or-enumerate_from 0 xs (length ys) (p, x) lt in
       (lt, from_zero p (length ys) (ap (λ (z : ℕ × ℕ). z.0) q), ap (λ (z : ℕ × ℕ). z.1) q)
 
   pub numbered_end : steps t rust.None u → length ys ≡ length xs

@@ -12,6 +12,7 @@ use lib.Dec.{ltb, eqb}
 use lib.ListN.{length, take, get_or}
 use lib.Seq.{get_or-take}
 use mathlib.Core.Option as maybe
+use Rattle.std.proofs.lemmas.Grind.{get_or_default_zero}
 use Rattle.answers.specs.Answers.{Answer, result, After, after}
 use Rattle.answers.proofs.AnswerLaws.{not_said}
 use Rattle.lists.specs.Lists.{keep, zero_to, written}
@@ -92,6 +93,14 @@ module _ (s : State) where
         ap (λ (o : Option ℕ). some (maybe.get_or o 0)) (look_all (map_of s.round) s.table (state_of key x) places (fits_both s.round s.list s.table ok).1 enough)
         ∙ terminal_slot s active x
         ∙ sym (slot_for_is x)
+
+    -- so what a turn of a loop over the sampled locations with their places has is the sheet at that place
+    pub sheet_of_turn : (places : ℕ) → min (length s.table) slot_limit ≤ places → eqb (length (actives_of s)) 0 ≡ false
+        → (p x : ℕ) → p < length (sampled s) → x ≡ get_or (sampled s) p x → sheet x (some (dealt_to key s.round.total s.table places x)) ≡ sheet_at s p
+    unfolding sheet_at location_at
+    sheet_of_turn places enough active p x h is =
+        ap (sheet x) (sheet_dealt places enough active x)
+        ∙ ap (λ (y : ℕ). sheet y (slot_for s y)) (is ∙ get_or_default_zero (sampled s) p x h)
 
 -- ---- of a plan
 

@@ -6,3 +6,4 @@ mod lent;
 pub mod locations;
 pub mod replays;
 pub mod round;
+mod sheets;

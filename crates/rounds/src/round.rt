@@ -9,7 +9,8 @@ ghost use Rattle.rounds.specs.Rounds.{fitting, open_call, state, admit_call, joi
 ghost use Rattle.rounds.specs.Plans.{plan_lists, plan_call, ScratchAfter};
 ghost use Rattle.rounds.specs.InnerRounds.{begun, with_reservoir, with_map, idle_of, dealt_to};
 
-use crate::locations;
+use crate::sheets;
+use crate::sheets::Sampled;
 use answers::Refusal;
 use choosers::node_map;
 use choosers::node_map::ConsistentNodeMap;
@@ -152,14 +153,6 @@ fn is_idle(r: Round, list: &[u32], table: &[u8]) -> Result<bool, Refusal>
     map_of(r).is_empty(table)
 }
 
-// The slot of a location, 0 where the lookup finds none.
-fn terminal(key: u64, total: u32, table: &[u8], location: u32, scratch: &mut [u64]) -> u32
-    ensures { result ≡ dealt_to key total table.now (length scratch.old) location }
-{
-    let state = locations::location_state(key, location);
-    node_map::first_active(total, table, state, scratch).unwrap_or(0)
-}
-
 // The sampled locations with their slots, over the first k places of the two lists.
 // By place: of what a loop over zipped `iter_mut`s wrote a proof knows nothing (tried).
 fn deal(
@@ -174,10 +167,9 @@ fn deal(
     ensures locations_after { locations.new ≡ written (sample (reservoir_of r) list.now) locations.old }
     ensures terminals_after { terminals.new ≡ written (map (dealt_to r.master_key r.total table.now (length scratch.old)) (sample (reservoir_of r) list.now)) terminals.old }
 {
-    let sampled = list[..r.used as usize].iter().filter(|x| **x < r.n);
-    for (place, x) in sampled.enumerate() {
-        locations[place] = *x;
-        terminals[place] = terminal(r.master_key, r.total, table, *x, scratch);
+    for (place, x) in Sampled::new(r, list).enumerate() {
+        locations[place] = x;
+        terminals[place] = sheets::terminal(r.master_key, r.total, table, x, scratch);
     }
 }
 

@@ -1,25 +1,22 @@
 -- `rounds::round::deal` meets its contract.
 -- Assumes nothing.
-use Rattle.std.proofs.Common.{rules, arith, length-append, ◌∷◌, [], ltb}
+use Rattle.std.proofs.Common.{arith, length-append, ◌∷◌, []}
 use Rattle.std.specs.List.{enumerate_from}
-use borrow.Author.Tests.{tests}
-use Rattle.std.proofs.lemmas.Iterator.{YieldsList, YieldsList-from_slice}
-use Rattle.std.proofs.lemmas.Iterator.Consumers.{YieldsList-at, YieldsList-from_filter, YieldsList-from_enumerate}
+use Rattle.std.proofs.lemmas.Iterator.{YieldsList}
+use Rattle.std.proofs.lemmas.Iterator.Consumers.{YieldsList-at, YieldsList-from_first, YieldsList-from_enumerate}
 use Rattle.orders.specs.ReservoirCalls.{sample}
 use Rattle.rounds.specs.Rounds.{reservoir_of}
-use Rattle.rounds.proofs.DealLaws.{slot_lent, filter_is_sample, dealt_start, dealt_more, dealt_end, numbered_turn, numbered_end}
+use Rattle.rounds.specs.InnerRounds.{still_sampled}
+use Rattle.rounds.proofs.DealLaws.{slot_lent, dealt_start, dealt_more, dealt_end, numbered_turn, numbered_end}
 use Rattle.rounds.proofs.round.deal.Given as given
 use Rattle.rounds.proofs.round.deal.Goals as goal
 use Rattle.rounds.proofs.round.deal.Goals.{After-into_iter-place-iterator}
 
 -- what the chain yields: the sample, each number with its place
-yields : (c : After-into_iter-place-iterator) → YieldsList given.iterator-loop-place.next_gives (λ p. (p.0, p.1.now)) c.into_iter-place-iterator.result (enumerate_from 0 (sample (reservoir_of c.args.r) c.args.list.now))
+yields : (c : After-into_iter-place-iterator) → YieldsList given.iterator-loop-place.next_gives (λ p. p) c.into_iter-place-iterator.result (enumerate_from 0 (sample (reservoir_of c.args.r) c.args.list.now))
 yields c =
-    let r = c.args.r in
-    rw (← filter_is_sample r c.args.list.now)
-    (YieldsList-at c.into_iter-place-iterator.ensures.into_iter_gives
-    (YieldsList-from_enumerate (YieldsList-at c.enumerate-place-items.ensures.source
-    (YieldsList-from_filter _ (λ x. ltb x r.n) (YieldsList-at c.filter-sampled.ensures.source (YieldsList-from_slice _ c.iter.ensures.rest)) c.filter-sampled.ensures.closure (λ x b q k. search (rules, tests)))) c.enumerate-place-items.ensures.count))
+    YieldsList-at c.into_iter-place-iterator.ensures.into_iter_gives
+    (YieldsList-from_enumerate (YieldsList-at c.enumerate-place-items.ensures.source (YieldsList-from_first (λ x. x) still_sampled _ c.new.ensures)) c.enumerate-place-items.ensures.count)
 
 pub loop-place-init : goal.loop-place-init
 loop-place-init c = dealt_start _ _ _ _
