@@ -2,26 +2,19 @@
 #![tactic(auto)]
 
 mod calls;
-mod chooser_calls;
-mod choosings;
 mod digests;
-mod histories;
-mod lines;
+mod memory;
 mod numbers;
-mod round_histories;
-mod round_replays;
-mod slot_calls;
-mod slot_histories;
-mod slot_lookups;
+mod replays;
 mod tally;
 
-use std::alloc::Global;
+use replays::Replay;
 use std::rt::Files;
 use std::{fs, io};
 use tally::Tally;
 
-// The files of answers, each NAME.txt.
-const NAMES: [&str; 13] = [
+// The files of answers, each NAME.txt. Those of the last are wrong, and a replay must say so of each.
+const NAMES: [&str; 14] = [
     "mix",
     "layers",
     "hashes",
@@ -35,29 +28,37 @@ const NAMES: [&str; 13] = [
     "handmade_choosers",
     "handmade_slots",
     "rounds",
+    "wrong",
 ];
 
-// A line that begins with # says how the answers were made.
-fn replayed(rt: &(impl Files + AllocGlobal), name: &str) -> io::Result<Tally> {
+fn read(rt: &(impl Files + AllocGlobal), name: &str) -> io::Result<String> {
     let path = format!(in rt.alloc(); "{name}.txt")?;
-    let text = fs::read_to_string(rt, &path)?;
+    fs::read_to_string(rt, &path)
+}
+
+fn replayed(text: &str, replay: &mut Replay) -> Tally {
     let mut tally = Tally::new();
-    for line in text.as_str().lines() {
-        if line.starts_with('#') {
-            tally.pass();
-        } else {
-            tally.judge(lines::agrees(rt.alloc(), line)?);
-        }
+    for line in text.lines() {
+        tally.take(replay.line(line));
     }
-    Ok(tally)
+    tally.take(replay.end());
+    tally
+}
+
+fn report(
+    rt: &(impl Files + Print + AllocGlobal),
+    name: &str,
+    replay: &mut Replay,
+) -> io::Result<()> {
+    let text = read(rt, name)?;
+    let tally = replayed(text.as_str(), replay);
+    println!(rt; "{name}: {tally}")
 }
 
 fn main(rt: HostRuntime) -> io::Result<()> {
-    for name in NAMES {
-        match replayed(&rt, name) {
-            Ok(tally) => println!(rt; "{name}: {tally}")?,
-            Err(_) => println!(rt; "{name}: cannot be read")?,
-        }
+    let mut replay = Replay::new(rt.alloc());
+    for name in NAMES.iter() {
+        report(&rt, name, &mut replay)?;
     }
     Ok(())
 }
