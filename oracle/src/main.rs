@@ -11,6 +11,7 @@ mod difference_claims;
 mod differences;
 mod handmade;
 mod handmade_choosers;
+mod handmade_orders;
 mod handmade_sets;
 mod handmade_slots;
 mod hash_sets;
