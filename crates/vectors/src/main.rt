@@ -1,4 +1,4 @@
-// Replays the stored answers of the original through the proved library, and says how many agree.
+// Replays the stored answers of the original through the proved library, and says how many agree. A file that cannot be read ends it.
 #![tactic(auto)]
 
 mod calls;
@@ -9,6 +9,7 @@ mod replays;
 mod tally;
 
 use replays::Replay;
+use std::alloc::Global;
 use std::rt::Files;
 use std::{fs, io};
 use tally::Tally;
@@ -36,7 +37,8 @@ fn read(rt: &(impl Files + AllocGlobal), name: &str) -> io::Result<String> {
     fs::read_to_string(rt, &path)
 }
 
-fn replayed(text: &str, replay: &mut Replay) -> Tally {
+fn replayed(alloc: Global, text: &str) -> Tally {
+    let mut replay = Replay::new(alloc);
     let mut tally = Tally::new();
     for line in text.lines() {
         tally.take(replay.line(line));
@@ -45,20 +47,15 @@ fn replayed(text: &str, replay: &mut Replay) -> Tally {
     tally
 }
 
-fn report(
-    rt: &(impl Files + Print + AllocGlobal),
-    name: &str,
-    replay: &mut Replay,
-) -> io::Result<()> {
+fn report(rt: &(impl Files + Print + AllocGlobal), name: &str) -> io::Result<()> {
     let text = read(rt, name)?;
-    let tally = replayed(text.as_str(), replay);
+    let tally = replayed(rt.alloc(), text.as_str());
     println!(rt; "{name}: {tally}")
 }
 
 fn main(rt: HostRuntime) -> io::Result<()> {
-    let mut replay = Replay::new(rt.alloc());
     for name in NAMES.iter() {
-        report(&rt, name, &mut replay)?;
+        report(&rt, name)?;
     }
     Ok(())
 }

@@ -76,8 +76,8 @@ impl<'a> Numbers<'a> {
         }
     }
 
-    // How many places a line lends.
-    fn length(&mut self) -> u64
+    // How many places a line lends, or how many times a call is made.
+    pub(crate) fn length(&mut self) -> u64
         ensures { result ≤ 4096 }
     {
         self.next().min(4096)

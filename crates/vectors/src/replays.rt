@@ -52,7 +52,7 @@ impl Replay {
     // `NAME n1 n2 ..` or `times*NAME n1 n2 ..`.
     fn made(&mut self, head: &str, numbers: &str) -> Option<u64> {
         match head.split_once('*') {
-            Some((times, name)) => self.call(Numbers::new(times, 0).next(), name, numbers),
+            Some((times, name)) => self.call(Numbers::new(times, 0).length(), name, numbers),
             None => self.call(1, head, numbers),
         }
     }
