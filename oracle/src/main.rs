@@ -194,23 +194,24 @@ fn file(name: &str) -> Option<Vec<String>> {
     Some(file)
 }
 
-/// The number of lines with an answer, and which is the first.
-fn answers(file: &[String]) -> (usize, usize) {
-    let mut answers = (1..)
-        .zip(file)
-        .filter(|(_, line)| line.contains(" = ") && !line.starts_with('#'));
-    let first = answers.next().map_or(0, |(number, _)| number);
-    (answers.count() + 1, first)
+/// The numbers of the lines with an answer.
+fn answers(file: &[String]) -> Vec<usize> {
+    let lines = (1..).zip(file).filter(|(_, line)| !line.starts_with('#'));
+    lines
+        .filter(|(_, line)| line.contains(" = "))
+        .map(|(number, _)| number)
+        .collect()
 }
 
 /// What the replay of all files prints.
 fn expected() {
     for (name, _, _) in SETS {
-        let (compared, _) = answers(&file(name).expect("a set"));
+        let compared = answers(&file(name).expect("a set")).len();
         println!("{name}: {compared} answers compared, all agree");
     }
-    let (compared, first) = answers(&file(WRONG).expect("the wrong ones"));
-    let wrong = compared + wrong_answers::UNANSWERED.len();
+    let answers = answers(&file(WRONG).expect("the wrong ones"));
+    let wrong = answers.len() + wrong_answers::UNANSWERED.len();
+    let first = answers[0];
     println!("{WRONG}: {wrong} answers compared, {wrong} differ, the first in line {first}");
 }
 
