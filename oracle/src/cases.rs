@@ -8,19 +8,18 @@ pub const HOW: &str = "\
 NAME n1 n2 .. = ANSWER DIGEST: a call, by its name without the library's prefix, its numbers, what it answers, and a digest. Or
 times*NAME ..: the call so many times, its last number one higher each time; ANSWER is the last one's. A call's line without an
 answer only goes into the next digest. PART places n1 n2 ..: lends a part of the memory anew, of so many places with these numbers,
-and with all ones where there are no more: words, list, wide_words, wide_list, table (or table_bits, 64 places to a number, the
-lowest bit first), calls, answers, locations, terminals, scratch. An empty line: nothing is lent any more. The digest is, for each
-call since the last answer, fed with what it answers and then with all that is lent, in that order, but for the scratch. All
-numbers are hexadecimal.";
+and with all ones where there are no more: words, list, wide_words, wide_list (for a replay its calls), table (or table_bits, 64
+places to a number, the lowest bit first), answers, locations (of a sample too), terminals, scratch. An empty line: nothing is lent
+any more. The digest is, for each call since the last answer, fed with what it answers and then with all that is lent, in that order,
+but for the scratch. All numbers are hexadecimal.";
 
 /// The parts of memory, in the order in which a digest is fed with them, and what stands in a place that no call wrote to.
-const PARTS: [(&str, u64); 10] = [
+const PARTS: [(&str, u64); 9] = [
     ("words", u32::MAX as u64),
     ("list", u32::MAX as u64),
     ("wide_words", u64::MAX),
     ("wide_list", u64::MAX),
     ("table", u8::MAX as u64),
-    ("calls", u64::MAX),
     ("answers", u32::MAX as u64),
     ("locations", u32::MAX as u64),
     ("terminals", u32::MAX as u64),
@@ -189,7 +188,7 @@ impl Case {
 #[derive(Default)]
 struct Written {
     lines: Vec<String>,
-    memory: [Vec<u64>; 10],
+    memory: [Vec<u64>; 9],
     fed: Vec<u64>,
     last: Option<(Call, u64, u64)>,
 }

@@ -95,7 +95,7 @@ impl Start {
     fn replay(&self, answers: u64, calls: &[u64]) -> Case {
         let mut lent = self.lent();
         let mut case = Case::lent(self.parts(&lent));
-        case.lend(("calls", calls.to_vec()));
+        case.lend(("wide_list", calls.to_vec()));
         case.lend(untouched("answers", answers as usize));
         let mut said = vec![UNTOUCHED; answers as usize];
         let told = lent.round.replay(

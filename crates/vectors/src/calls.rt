@@ -106,7 +106,7 @@ fn plan_says(name: &str, g: Given, m: &mut Memory) -> Option<u64> {
             g.a,
             g.low_b,
             g.low_c,
-            &m.calls,
+            &m.wide_list,
             &mut m.list,
             &mut m.table,
             &mut m.answers,

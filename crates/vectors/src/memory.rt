@@ -3,8 +3,8 @@ use crate::digests::Digest;
 use crate::numbers::Numbers;
 use std::alloc::Global;
 
-// A record's words and its list, those of a chooser, a table of slots, the numbers of calls and what a replay answers to them, where a
-// sample and a plan go, and scratch.
+// A record's words and its list, those of a chooser, a table of slots, a replay's answers, where a sample and a plan go, and scratch. The
+// calls of a replay are the wide list.
 #[derive(Drop)]
 pub struct Memory {
     pub words: Vec<u32>,
@@ -12,7 +12,6 @@ pub struct Memory {
     pub wide_words: Vec<u64>,
     pub wide_list: Vec<u64>,
     pub table: Vec<u8>,
-    pub calls: Vec<u64>,
     pub answers: Vec<u32>,
     pub locations: Vec<u32>,
     pub terminals: Vec<u32>,
@@ -28,7 +27,6 @@ impl Memory {
             wide_words: Vec::new(alloc),
             wide_list: Vec::new(alloc),
             table: Vec::new(alloc),
-            calls: Vec::new(alloc),
             answers: Vec::new(alloc),
             locations: Vec::new(alloc),
             terminals: Vec::new(alloc),
@@ -45,7 +43,6 @@ impl Memory {
             "wide_list" => line.fill(&mut self.wide_list),
             "table" => line.fill(&mut self.table),
             "table_bits" => line.fill_bits(&mut self.table),
-            "calls" => line.fill(&mut self.calls),
             "answers" => line.fill(&mut self.answers),
             "locations" => line.fill(&mut self.locations),
             "terminals" => line.fill(&mut self.terminals),
@@ -61,7 +58,6 @@ impl Memory {
         digest.feed_all(&self.wide_words);
         digest.feed_all(&self.wide_list);
         digest.feed_all(&self.table);
-        digest.feed_all(&self.calls);
         digest.feed_all(&self.answers);
         digest.feed_all(&self.locations);
         digest.feed_all(&self.terminals);
