@@ -1,29 +1,38 @@
-//! How a call on memory made by hand is spelt in a line: a letter, what is lent, what else the call takes, its answer, and what
-//! it leaves.
+//! A case of one call on memory made by hand: what is lent, what else the call takes, its answer, and what it leaves.
 
 use oracle::{UNTOUCHED, UNTOUCHED_WIDE};
 
-use crate::{coded, spelt};
+use crate::cases::{numbers, Case, Part};
+use crate::coded;
 
-/// Memory that a call is lent.
+/// Memory that a call is lent, by its parts.
 pub trait Lent {
-    /// Before a call: how much is lent, and what stands there.
-    fn lent(&self) -> Vec<u64>;
-    /// After it: what stands there.
-    fn left(&self) -> Vec<u64>;
+    fn parts(&self) -> Vec<Part>;
+
+    /// The numbers that a call takes first because of it.
+    fn taken(&self) -> Vec<u64> {
+        Vec::new()
+    }
 }
 
-/// A word or place.
+/// A word or place, and the names of the parts that are made of such.
 pub trait Word: Copy + Into<u64> {
+    const WORDS: &'static str;
+    const LIST: &'static str;
+
     /// One that no call has written to.
     const UNTOUCHED: Self;
 }
 
 impl Word for u32 {
+    const WORDS: &'static str = "words";
+    const LIST: &'static str = "list";
     const UNTOUCHED: Self = UNTOUCHED;
 }
 
 impl Word for u64 {
+    const WORDS: &'static str = "wide_words";
+    const LIST: &'static str = "wide_list";
     const UNTOUCHED: Self = UNTOUCHED_WIDE;
 }
 
@@ -44,35 +53,38 @@ impl<W: Word> Memory<W> {
 }
 
 impl<W: Word> Lent for Memory<W> {
-    fn lent(&self) -> Vec<u64> {
-        let lengths = [self.words.len() as u64, self.list.len() as u64];
-        [&lengths[..], &self.left()].concat()
+    fn parts(&self) -> Vec<Part> {
+        vec![
+            (W::WORDS, numbers(&self.words)),
+            (W::LIST, numbers(&self.list)),
+        ]
     }
-
-    fn left(&self) -> Vec<u64> {
-        [numbers(&self.words), numbers(&self.list)].concat()
-    }
-}
-
-pub fn numbers<W: Copy + Into<u64>>(words: &[W]) -> Vec<u64> {
-    words.iter().map(|&x| x.into()).collect()
-}
-
-/// A letter, what is lent, and the rest of the line.
-pub fn line(letter: char, before: &impl Lent, rest: &[u64]) -> String {
-    letter.to_string() + &spelt(&before.lent()) + &spelt(rest)
 }
 
 /// A call that leaves another memory behind.
-pub fn changed<M: Lent>(letter: char, before: &M, taken: &[u64], answer: u64, after: &M) -> String {
-    line(letter, before, &[taken, &[answer], &after.left()].concat())
+pub fn changed<M: Lent>(
+    name: &'static str,
+    before: &M,
+    taken: &[u64],
+    answer: u64,
+    after: &M,
+) -> Case {
+    let mut case = Case::lent(before.parts());
+    case.call(
+        name,
+        &[&before.taken(), taken].concat(),
+        answer,
+        after.parts(),
+    );
+    case.compare();
+    case
 }
 
 /// A call that leaves all as it was.
-pub fn kept(letter: char, memory: &impl Lent, taken: &[u64], answer: u64) -> String {
-    changed(letter, memory, taken, answer, memory)
+pub fn kept(name: &'static str, memory: &impl Lent, taken: &[u64], answer: u64) -> Case {
+    changed(name, memory, taken, answer, memory)
 }
 
-pub fn refused(letter: char, memory: &impl Lent, taken: &[u64], c: u32) -> String {
-    kept(letter, memory, taken, coded(Err(c)))
+pub fn refused(name: &'static str, memory: &impl Lent, taken: &[u64], c: u32) -> Case {
+    kept(name, memory, taken, coded(Err(c)))
 }

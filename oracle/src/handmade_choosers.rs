@@ -1,16 +1,10 @@
-//! Calls on choosers made by hand, a line each. Answers and memory are document 01's.
+//! Calls on choosers made by hand. Answers and memory are document 01's.
 
 use oracle::UNTOUCHED_WIDE;
 
+use crate::cases::Case;
 use crate::handmade::{self, changed, kept, refused};
 use crate::{coded, NONE};
-
-/// How its lines read.
-pub const HOW: &str = "\
-A letter, how many words and places are lent (5 and 8 at most), the record's words, the list's places, what else the call takes,
-its answer, and the words and places after it. Words and places have 64 bits.
-C .. state n ..: chooser_new, with no place lent. K .. state n k ..: chooser_new_with_k. W ..: chooser_grow_k.
-Y ..: chooser_next. D ..: chooser_shrink_n. I ..: chooser_fits.";
 
 /// The largest n.
 const LIMIT: u64 = 1 << 62;
@@ -29,44 +23,65 @@ fn chooser(n: u64, k: u64, list: &[u64]) -> Memory {
     }
 }
 
-/// `C .. state n ..`: a new chooser.
-fn new_choosers() -> Vec<String> {
+/// A new chooser of a state and an n.
+fn new_choosers() -> Vec<Case> {
     let state = 0x0123_4567_89ab_cdef;
-    let mut lines = Vec::new();
+    let mut cases = Vec::new();
     for n in [0, 1, 5, LIMIT - 1, LIMIT] {
         for words in [3, 5] {
             let mut made = Memory::untouched(words, 0);
             made.words[..3].copy_from_slice(&[state, n, 0]);
             let before = Memory::untouched(words, 0);
-            lines.push(changed('C', &before, &[state, n], 0, &made));
+            cases.push(changed("chooser_new", &before, &[state, n], 0, &made));
         }
     }
     for n in [LIMIT + 1, 1 << 63, u64::MAX] {
-        lines.push(refused('C', &Memory::untouched(3, 0), &[state, n], 1));
+        cases.push(refused(
+            "chooser_new",
+            &Memory::untouched(3, 0),
+            &[state, n],
+            1,
+        ));
     }
     // A record too short: 4, after 1 by document 01's order.
     for (n, c) in [(0, 4), (5, 4), (LIMIT + 1, 1)] {
         for words in [0, 2] {
-            lines.push(refused('C', &Memory::untouched(words, 0), &[state, n], c));
+            cases.push(refused(
+                "chooser_new",
+                &Memory::untouched(words, 0),
+                &[state, n],
+                c,
+            ));
         }
     }
-    lines
+    cases
 }
 
-/// `K .. state n k ..`: a new chooser with k samples under state 0, in a list untouched before.
-fn with_k(n: u64, k: u64, list: &[u64]) -> String {
+/// A new chooser with k samples under state 0, in a list untouched before.
+fn with_k(n: u64, k: u64, list: &[u64]) -> Case {
     let before = Memory::untouched(3, list.len());
-    changed('K', &before, &[0, n, k], 0, &chooser(n, k, list))
+    changed(
+        "chooser_new_with_k",
+        &before,
+        &[0, n, k],
+        0,
+        &chooser(n, k, list),
+    )
 }
 
 /// One that is refused with so many words and places lent.
-fn with_k_refused(n: u64, k: u64, words: usize, places: usize, c: u32) -> String {
-    refused('K', &Memory::untouched(words, places), &[0, n, k], c)
+fn with_k_refused(n: u64, k: u64, words: usize, places: usize, c: u32) -> Case {
+    refused(
+        "chooser_new_with_k",
+        &Memory::untouched(words, places),
+        &[0, n, k],
+        c,
+    )
 }
 
 /// Under state 0 the choice order of 9 is 7, 3, 1, 4, 2, 8, 0, 5, 6.
-fn with_ks() -> Vec<String> {
-    let mut lines = vec![
+fn with_ks() -> Vec<Case> {
+    let mut cases = vec![
         with_k(0, 0, &[]),
         with_k(0, 0, &[NO, NO]),
         with_k(9, 0, &[NO]),
@@ -92,27 +107,30 @@ fn with_ks() -> Vec<String> {
     ];
     // A record too short: 4, after 1 and 3 by document 01's order.
     for (n, k, c) in [(9, 3, 4), (5, 6, 3), (LIMIT + 1, 0, 1)] {
-        lines.push(with_k_refused(n, k, 2, 8, c));
-        lines.push(with_k_refused(n, k, 0, 0, c));
+        cases.push(with_k_refused(n, k, 2, 8, c));
+        cases.push(with_k_refused(n, k, 0, 0, c));
     }
-    lines
+    cases
 }
 
-/// `W ..` and `Y ..`: a grow and a next in a chooser of n, whose list lacks the sample that comes in at an index.
-fn grown(n: u64, before: &[u64], index: usize, after: &[u64]) -> [String; 2] {
+/// A grow and a next in a chooser of n, whose list lacks the sample that comes in at an index.
+fn grown(n: u64, before: &[u64], index: usize, after: &[u64]) -> [Case; 2] {
     let mut lent = before.to_vec();
     lent.resize(after.len() + 1, NO);
     let mut left = after.to_vec();
     left.push(NO);
     let before = chooser(n, before.len() as u64, &lent);
     let left = chooser(n, after.len() as u64, &left);
-    [('W', index as u64), ('Y', after[index])]
-        .map(|(letter, answer)| changed(letter, &before, &[], answer, &left))
+    [
+        ("chooser_grow_k", index as u64),
+        ("chooser_next", after[index]),
+    ]
+    .map(|(name, answer)| changed(name, &before, &[], answer, &left))
 }
 
 /// Under state 0 g(0, n) is 0, 1, 1, 3, 3, 3, 3, 7, 7 from n = 1 on; g(1, n) is 1 for n = 2, then 2; g(2, n) is 2, 2, then 4,
 /// from n = 3 to 9.
-fn growths() -> Vec<String> {
+fn growths() -> Vec<Case> {
     let large = 3_369_564_139_499_460_800;
     [
         // A whole choice order.
@@ -138,7 +156,7 @@ fn growths() -> Vec<String> {
 }
 
 /// Those that are refused, each with the grow's refusal and what a next says.
-fn growths_refused() -> Vec<String> {
+fn growths_refused() -> Vec<Case> {
     let cases = [
         // k = n, before a list too short: the next says none.
         (chooser(0, 0, &[]), 6, NONE),
@@ -154,20 +172,29 @@ fn growths_refused() -> Vec<String> {
     cases
         .iter()
         .flat_map(|(memory, c, next)| {
-            [refused('W', memory, &[], *c), kept('Y', memory, &[], *next)]
+            [
+                refused("chooser_grow_k", memory, &[], *c),
+                kept("chooser_next", memory, &[], *next),
+            ]
         })
         .collect()
 }
 
-/// `D ..`: a shrink of a chooser of n, in a list with a place more.
-fn shrunk(n: u64, before: &[u64], index: u64, after: &[u64]) -> String {
+/// A shrink of a chooser of n, in a list with a place more.
+fn shrunk(n: u64, before: &[u64], index: u64, after: &[u64]) -> Case {
     let lent = |n, samples: &[u64]| chooser(n, samples.len() as u64, &[samples, &[NO]].concat());
     let last = before[before.len() - 1];
-    changed('D', &lent(n, before), &[], index, &lent(last, after))
+    changed(
+        "chooser_shrink_n",
+        &lent(n, before),
+        &[],
+        index,
+        &lent(last, after),
+    )
 }
 
-fn shrinks() -> Vec<String> {
-    let mut lines = vec![
+fn shrinks() -> Vec<Case> {
+    let mut cases = vec![
         // From S(3, 9) down to 5.
         shrunk(9, &[1, 3, 7], 2, &[1, 3, 4]),
         shrunk(7, &[1, 3, 4], 1, &[1, 2, 3]),
@@ -190,16 +217,16 @@ fn shrinks() -> Vec<String> {
         chooser(1, 1, &[0]),
         chooser(LIMIT, 1, &[0]),
     ] {
-        lines.push(refused('D', &memory, &[], 5));
+        cases.push(refused("chooser_shrink_n", &memory, &[], 5));
     }
     for memory in [
         chooser(LIMIT + 1, 0, &[]),
         chooser(LIMIT + 1, 1, &[0]),
         chooser(u64::MAX, 1, &[9]),
     ] {
-        lines.push(refused('D', &memory, &[], 1));
+        cases.push(refused("chooser_shrink_n", &memory, &[], 1));
     }
-    lines
+    cases
 }
 
 /// Records that refusal 12 is for, each for one reason.
@@ -244,18 +271,26 @@ fn fit() -> Vec<Memory> {
 }
 
 /// Calls on records that lack words.
-fn short_records() -> Vec<String> {
-    let mut lines = Vec::new();
+fn short_records() -> Vec<Case> {
+    let mut cases = Vec::new();
     for words in [0, 2] {
         let mut short = chooser(9, 3, &[1, 3, 7, NO]);
         short.words.truncate(words);
-        lines.extend(['W', 'Y', 'D', 'I'].map(|letter| refused(letter, &short, &[], 4)));
+        cases.extend(
+            [
+                "chooser_grow_k",
+                "chooser_next",
+                "chooser_shrink_n",
+                "chooser_fits",
+            ]
+            .map(|name| refused(name, &short, &[], 4)),
+        );
     }
-    lines
+    cases
 }
 
-pub fn handmade() -> Vec<String> {
-    let mut lines = [
+pub fn handmade() -> Vec<Case> {
+    let mut cases = [
         new_choosers(),
         with_ks(),
         growths(),
@@ -264,10 +299,17 @@ pub fn handmade() -> Vec<String> {
     ]
     .concat();
     for memory in unfit() {
-        lines.extend(['W', 'Y', 'D'].map(|letter| refused(letter, &memory, &[], 12)));
-        lines.push(kept('I', &memory, &[], 0));
+        cases.extend(
+            ["chooser_grow_k", "chooser_next", "chooser_shrink_n"]
+                .map(|name| refused(name, &memory, &[], 12)),
+        );
+        cases.push(kept("chooser_fits", &memory, &[], 0));
     }
-    lines.extend(fit().iter().map(|memory| kept('I', memory, &[], 1)));
-    lines.extend(short_records());
-    lines
+    cases.extend(
+        fit()
+            .iter()
+            .map(|memory| kept("chooser_fits", memory, &[], 1)),
+    );
+    cases.extend(short_records());
+    cases
 }

@@ -1,10 +1,10 @@
-//! Calls on memory made by hand, a line each: a letter, how many words and places are lent, the record's words, the list's
-//! places, what else the call takes, its answer, and the words and places after it. Answers and memory are document 01's.
+//! Calls on orders and reservoirs made by hand. Answers and memory are document 01's.
 
 use oracle::UNTOUCHED;
 
-use crate::handmade::{self, changed, kept, numbers, refused};
-use crate::{coded, spelt, NONE};
+use crate::cases::{numbers, untouched, Case};
+use crate::handmade::{self, changed, kept, refused, Lent};
+use crate::{coded, handmade_orders, NONE};
 
 /// The largest n.
 const LIMIT: u32 = 1 << 30;
@@ -13,112 +13,6 @@ const LIMIT: u32 = 1 << 30;
 const NO: u32 = UNTOUCHED;
 
 type Memory = handmade::Memory<u32>;
-
-/// An order's record under key 0 with these counters, the others 0.
-fn order(n: u32, counters: &[u32]) -> Memory {
-    let mut words = vec![0; 18];
-    words[2] = n;
-    words[3..][..counters.len()].copy_from_slice(counters);
-    Memory {
-        words,
-        list: Vec::new(),
-    }
-}
-
-/// The same with one counter.
-fn one_counter(n: u32, j: usize, counter: u32) -> Memory {
-    let mut order = order(n, &[]);
-    order.words[3 + j] = counter;
-    order
-}
-
-/// `N .. n key ..`: a new order.
-fn new_orders() -> Vec<String> {
-    let key = 0x0123_4567_89ab_cdef;
-    let mut lines = Vec::new();
-    for n in [0, 1, 5, LIMIT] {
-        let taken = [n.into(), key];
-        let mut made = order(n, &[]);
-        made.words[..2].copy_from_slice(&[0x89ab_cdef, 0x0123_4567]);
-        for words in [18, 20] {
-            let before = Memory::untouched(words, 0);
-            made.words.resize(words, NO);
-            lines.push(changed('N', &before, &taken, 0, &made));
-        }
-        for words in [0, 17] {
-            lines.push(refused('N', &Memory::untouched(words, 0), &taken, 4));
-        }
-    }
-    for n in [LIMIT + 1, 1 << 31, u32::MAX] {
-        let taken = [n.into(), key];
-        lines.push(refused('N', &Memory::untouched(18, 0), &taken, 1));
-    }
-    lines
-}
-
-/// `X ..`: the next of an order, which gives a number or none.
-fn next_of(before: Memory, answer: u64, after: Memory) -> String {
-    changed('X', &before, &[], answer, &after)
-}
-
-fn none_of(order: Memory) -> String {
-    kept('X', &order, &[], NONE)
-}
-
-fn next_refused(order: Memory, c: u32) -> String {
-    refused('X', &order, &[], c)
-}
-
-/// The counters of the lowest layers, each at its layer's size.
-fn at_sizes(layers: u32) -> Vec<u32> {
-    (0..layers).map(|j| 4 << (2 * j)).collect()
-}
-
-/// The same, the last of them one above.
-fn past_sizes(layers: u32) -> Vec<u32> {
-    let mut counters = at_sizes(layers);
-    *counters.last_mut().unwrap() += 1;
-    counters
-}
-
-/// Under key 0 layer 0 gives 0, 3, 2, 1, and layer 1 gives 13, 12, 11, 0, 4, 5, 8, 3, 7, 14, 1, 9, 15, 6, 10, 2.
-fn nexts() -> Vec<String> {
-    let mut lines = vec![
-        // A descent meets a counter at its size, after three numbers were dropped.
-        next_refused(order(5, &[4]), 12),
-        next_refused(order(5, &[4, 12]), 12),
-        // It is not met.
-        next_of(order(16, &[4]), 13, order(16, &[4, 1])),
-        next_of(order(5, &[4, 4]), 4, order(5, &[4, 5])),
-        // The last number of the lower layer, and of both.
-        next_of(order(5, &[3, 10]), 1, order(5, &[4, 11])),
-        next_of(order(5, &[3, 12]), 1, order(5, &at_sizes(2))),
-        // Layers above that of n keep their counters.
-        next_of(order(6, &[2, 5, 7, 9]), 5, order(6, &[2, 6, 7, 9])),
-        // Numbers are dropped up to the layer's end, where the counter then stands.
-        next_of(order(1, &[1]), NONE, order(1, &[4])),
-        none_of(order(1, &[4])),
-        none_of(order(5, &[0, 16])),
-        none_of(order(16, &at_sizes(2))),
-        none_of(one_counter(LIMIT, 14, LIMIT)),
-        none_of(order(0, &[])),
-        none_of(order(0, &at_sizes(3))),
-    ];
-    for n in [LIMIT + 1, 1 << 31, u32::MAX] {
-        lines.push(next_refused(order(n, &[]), 1));
-        lines.push(next_refused(order(n, &at_sizes(2)), 1));
-        lines.push(next_refused(order(n, &past_sizes(2)), 12));
-    }
-    // Above its size, in a layer below, at and above that of n.
-    for j in 0..15 {
-        let above = (4 << (2 * j)) + 1;
-        for n in [0, 1, 5, LIMIT] {
-            lines.push(next_refused(one_counter(n, j, above), 12));
-        }
-        lines.push(next_refused(one_counter(1, j, u32::MAX), 12));
-    }
-    lines
-}
 
 /// A reservoir's record under a key below 2^32, and its list.
 fn under(key: u32, [k, n, j_max, used]: [u32; 4], list: &[u32]) -> Memory {
@@ -132,22 +26,28 @@ fn reservoir(record: [u32; 4], list: &[u32]) -> Memory {
     under(0, record, list)
 }
 
-/// `R .. k n key ..`: a new reservoir under key 0.
-fn new_reservoir(record: [u32; 4], list: &[u32]) -> String {
+/// A new reservoir under key 0.
+fn new_reservoir(record: [u32; 4], list: &[u32]) -> Case {
     let [k, n, ..] = record;
     let before = Memory::untouched(6, list.len());
     let taken = [k.into(), n.into(), 0];
-    changed('R', &before, &taken, 0, &reservoir(record, list))
+    changed(
+        "reservoir_new",
+        &before,
+        &taken,
+        0,
+        &reservoir(record, list),
+    )
 }
 
 /// One that is refused with so many words and places lent.
-fn new_refused(k: u32, n: u32, words: usize, places: usize, c: u32) -> String {
+fn new_refused(k: u32, n: u32, words: usize, places: usize, c: u32) -> Case {
     let lent = Memory::untouched(words, places);
-    refused('R', &lent, &[k.into(), n.into(), 0], c)
+    refused("reservoir_new", &lent, &[k.into(), n.into(), 0], c)
 }
 
-fn new_reservoirs() -> Vec<String> {
-    let mut lines = vec![
+fn new_reservoirs() -> Vec<Case> {
+    let mut cases = vec![
         new_reservoir([1, 1, 0, 1], &[0, NO]),
         new_reservoir([4, 4, 0, 4], &[0, 3, 2, 1, NO]),
         new_reservoir([3, 16, 1, 3], &[13, 12, 11, NO, NO]),
@@ -169,19 +69,19 @@ fn new_reservoirs() -> Vec<String> {
     ];
     // A record too short: 4, after 1, 2 and 3 by document 01's order.
     for (k, n, c) in [(2, 5, 4), (0, 5, 2), (6, 5, 3), (1, LIMIT + 1, 1)] {
-        lines.push(new_refused(k, n, 5, 8, c));
-        lines.push(new_refused(k, n, 0, 0, c));
+        cases.push(new_refused(k, n, 5, 8, c));
+        cases.push(new_refused(k, n, 0, 0, c));
     }
-    lines
+    cases
 }
 
-/// `A ..`: an admit that brings in `came` and puts out `went`.
-fn admitted(before: Memory, came: u32, went: u32, after: Memory) -> String {
+/// An admit that brings in `came` and puts out `went`.
+fn admitted(before: Memory, came: u32, went: u32, after: Memory) -> Case {
     let answer = (u64::from(came) << 32) + u64::from(went);
-    changed('A', &before, &[], answer, &after)
+    changed("reservoir_next", &before, &[], answer, &after)
 }
 
-fn admits() -> Vec<String> {
+fn admits() -> Vec<Case> {
     vec![
         // Document 01's own.
         admitted(
@@ -197,7 +97,12 @@ fn admits() -> Vec<String> {
             1,
             reservoir([1, 6, 1, 2], &[5, 5, 1]),
         ),
-        refused('A', &reservoir([1, 6, 1, 2], &[5, 5, 1]), &[], 12),
+        refused(
+            "reservoir_next",
+            &reservoir([1, 6, 1, 2], &[5, 5, 1]),
+            &[],
+            12,
+        ),
         admitted(
             reservoir([3, 3, 1, 6], &[15, 0, 4, 1, 4, 2]),
             4,
@@ -230,7 +135,12 @@ fn admits() -> Vec<String> {
             1,
             reservoir([2, 5, 1, 5], &[13, 12, 11, 1, 4]),
         ),
-        refused('A', &reservoir([2, 4, 0, 2], &[2, 1, NO, NO]), &[], 4),
+        refused(
+            "reservoir_next",
+            &reservoir([2, 4, 0, 2], &[2, 1, NO, NO]),
+            &[],
+            4,
+        ),
         // A layer above that of n.
         admitted(
             reservoir([1, 2, 3, 1], &[0, NO, NO, NO, NO]),
@@ -245,7 +155,7 @@ fn admits() -> Vec<String> {
             0,
             under(3, [1, 20, 2, 2], &[47, 19]),
         ),
-        refused('A', &under(3, [1, 1, 0, 1], &[0]), &[], 4),
+        refused("reservoir_next", &under(3, [1, 1, 0, 1], &[0]), &[], 4),
         // The last number below the limit, then none; none below it.
         admitted(
             reservoir([1, 1 << 28, 14, 2], &[LIMIT - 1, 5]),
@@ -253,9 +163,14 @@ fn admits() -> Vec<String> {
             5,
             reservoir([1, LIMIT, 14, 1], &[LIMIT - 1, 5]),
         ),
-        kept('A', &reservoir([1, LIMIT, 14, 1], &[LIMIT - 1]), &[], NONE),
+        kept(
+            "reservoir_next",
+            &reservoir([1, LIMIT, 14, 1], &[LIMIT - 1]),
+            &[],
+            NONE,
+        ),
         changed(
-            'A',
+            "reservoir_next",
             &under(10, [1, 1 << 28, 13, 1], &[7]),
             &[],
             NONE,
@@ -264,12 +179,12 @@ fn admits() -> Vec<String> {
     ]
 }
 
-/// `G ..`: a `grow_layer`.
-fn grown(before: Memory, after: Memory) -> String {
-    changed('G', &before, &[], 0, &after)
+/// A `grow_layer`.
+fn grown(before: Memory, after: Memory) -> Case {
+    changed("reservoir_grow_layer", &before, &[], 0, &after)
 }
 
-fn growths() -> Vec<String> {
+fn growths() -> Vec<Case> {
     let before = |places: usize| {
         let mut memory = reservoir([2, 4, 0, 2], &[2, 1]);
         memory.list.resize(places, NO);
@@ -284,12 +199,27 @@ fn growths() -> Vec<String> {
             before(8),
             reservoir([2, 4, 1, 8], &[13, 12, 11, 2, 4, 5, 8, 1]),
         ),
-        refused('G', &before(7), &[], 4),
+        refused("reservoir_grow_layer", &before(7), &[], 4),
         // A layer that has k outputs for k.
         grown(under(3, [1, 1, 0, 1], &[0]), under(3, [1, 1, 1, 1], &[0])),
-        refused('G', &reservoir([2, 3, 1, 4], &[7, 1, 5, 2]), &[], 7),
-        refused('G', &reservoir([2, 3, 14, 4], &[7, 1, 5, 2]), &[], 7),
-        refused('G', &reservoir([2, 3, 14, 2], &[1, 2]), &[], 8),
+        refused(
+            "reservoir_grow_layer",
+            &reservoir([2, 3, 1, 4], &[7, 1, 5, 2]),
+            &[],
+            7,
+        ),
+        refused(
+            "reservoir_grow_layer",
+            &reservoir([2, 3, 14, 4], &[7, 1, 5, 2]),
+            &[],
+            7,
+        ),
+        refused(
+            "reservoir_grow_layer",
+            &reservoir([2, 3, 14, 2], &[1, 2]),
+            &[],
+            8,
+        ),
     ]
 }
 
@@ -338,18 +268,27 @@ fn fit() -> Vec<Memory> {
     ]
 }
 
-/// `S .. places .. out`: the sample, in another list of so many places, untouched before.
-fn sampled(memory: &Memory, answer: u64, out: &[u32]) -> String {
-    kept('S', memory, &[out.len() as u64], answer) + &spelt(&numbers(out))
+/// The sample, in another list of so many places, untouched before.
+fn sampled(memory: &Memory, answer: u64, out: &[u32]) -> Case {
+    let mut case = Case::lent(memory.parts());
+    case.lend(untouched("locations", out.len()));
+    case.call(
+        "reservoir_sample",
+        &[],
+        answer,
+        [("locations", numbers(out))],
+    );
+    case.compare();
+    case
 }
 
-fn samples() -> Vec<String> {
+fn samples() -> Vec<Case> {
     let (few, all) = (
         reservoir([2, 3, 1, 4], &[7, 1, 5, 2]),
         reservoir([2, 16, 1, 2], &[1, 15, 9]),
     );
     let too_short = coded(Err(4));
-    let mut lines = vec![
+    let mut cases = vec![
         sampled(&few, 0, &[1, 2]),
         sampled(&few, 0, &[1, 2, NO, NO, NO]),
         sampled(&few, too_short, &[NO]),
@@ -359,38 +298,43 @@ fn samples() -> Vec<String> {
     ];
     for memory in unfit() {
         for out in [&[NO; 3][..], &[]] {
-            lines.push(sampled(&memory, coded(Err(12)), out));
+            cases.push(sampled(&memory, coded(Err(12)), out));
         }
     }
-    lines
+    cases
 }
 
-/// Calls on records that lack words.
-fn short_records() -> Vec<String> {
+/// Calls on a record that lacks a word.
+fn short_records() -> Vec<Case> {
     let mut short = reservoir([2, 3, 1, 4], &[7, 1, 5, 2]);
     short.words.truncate(5);
-    let mut short_order = order(5, &[]);
-    short_order.words.truncate(17);
     vec![
-        refused('A', &short, &[], 4),
-        refused('G', &short, &[], 4),
-        refused('F', &short, &[], 4),
+        refused("reservoir_next", &short, &[], 4),
+        refused("reservoir_grow_layer", &short, &[], 4),
+        refused("reservoir_fits", &short, &[], 4),
         sampled(&short, coded(Err(4)), &[NO; 3]),
-        next_refused(short_order, 4),
-        next_refused(Memory::untouched(0, 0), 4),
     ]
 }
 
-/// `F ..`: whether a record fits its list, as 1 or 0.
-pub fn handmade() -> Vec<String> {
-    let mut lines = [new_orders(), nexts(), new_reservoirs(), admits(), growths()].concat();
+pub fn handmade() -> Vec<Case> {
+    let mut cases = [
+        handmade_orders::handmade(),
+        new_reservoirs(),
+        admits(),
+        growths(),
+    ]
+    .concat();
     for memory in unfit() {
-        lines.push(refused('A', &memory, &[], 12));
-        lines.push(refused('G', &memory, &[], 12));
-        lines.push(kept('F', &memory, &[], 0));
+        cases.push(refused("reservoir_next", &memory, &[], 12));
+        cases.push(refused("reservoir_grow_layer", &memory, &[], 12));
+        cases.push(kept("reservoir_fits", &memory, &[], 0));
     }
-    lines.extend(fit().iter().map(|memory| kept('F', memory, &[], 1)));
-    lines.extend(samples());
-    lines.extend(short_records());
-    lines
+    let fits = fit();
+    cases.extend(
+        fits.iter()
+            .map(|memory| kept("reservoir_fits", memory, &[], 1)),
+    );
+    cases.extend(samples());
+    cases.extend(short_records());
+    cases
 }

@@ -1,21 +1,12 @@
-//! Calls on slots whose table is made by hand, a line each, and histories with any number of slots deleted. Answers and bytes
+//! Calls on slots whose table is made by hand, and histories with any number of slots deleted. Answers and bytes
 //! are document 01's.
 
 use oracle::{Draws, Told, UNTOUCHED_BYTE};
 
-use crate::handmade::{changed, line, numbers, refused, Lent};
-use crate::slot_sets::history_line;
+use crate::cases::{numbers, Case, Part};
+use crate::handmade::{changed, kept, refused, Lent};
+use crate::slot_sets::{history_of, looked_up, After};
 use crate::{coded, NONE};
-
-/// How its lines read.
-pub const HOW: &str = "\
-J total bytes b0 b1 .. answer b0 b1 ..: slots_add with that total and a table of so many bytes, at most 24; the bytes after it.
-L total bytes b0 b1 .. slot answer b0 b1 ..: slots_remove of a slot, likewise.
-Q total bytes b0 b1 .. slot fits len is_empty is_active: the answers of slots_fits, slots_len, slots_is_empty, and of
-slots_is_active with that slot.
-E total bytes b0 b1 .. state places got first: the answers of slots_get and of first_active with a scratch of so many places,
-at most 24.
-j bytes calls c1 c2 .. digest: as in slots.txt.";
 
 /// Slots in a table.
 #[derive(Clone)]
@@ -32,27 +23,26 @@ fn slots(total: u32, table: &[u8]) -> Slots {
 }
 
 impl Lent for Slots {
-    fn lent(&self) -> Vec<u64> {
-        let numbers = [self.total.into(), self.table.len() as u64];
-        [&numbers[..], &self.left()].concat()
+    fn parts(&self) -> Vec<Part> {
+        vec![("table", numbers(&self.table))]
     }
 
-    fn left(&self) -> Vec<u64> {
-        numbers(&self.table)
+    fn taken(&self) -> Vec<u64> {
+        vec![self.total.into()]
     }
 }
 
-/// `J .. answer ..`: an add that takes a slot.
-fn added(before: Slots, slot: u32, after: Slots) -> String {
+/// An add that takes a slot.
+fn added(before: Slots, slot: u32, after: Slots) -> Case {
     let answer = (u64::from(after.total) << 32) + u64::from(slot);
-    changed('J', &before, &[], answer, &after)
+    changed("slots_add", &before, &[], answer, &after)
 }
 
-fn add_refused(slots: Slots, c: u32) -> String {
-    refused('J', &slots, &[], c)
+fn add_refused(slots: Slots, c: u32) -> Case {
+    refused("slots_add", &slots, &[], c)
 }
 
-fn adds() -> Vec<String> {
+fn adds() -> Vec<Case> {
     vec![
         added(slots(0, &[255]), 0, slots(1, &[1])),
         added(slots(0, &[0, 0]), 0, slots(1, &[1, 0])),
@@ -70,16 +60,22 @@ fn adds() -> Vec<String> {
     ]
 }
 
-/// `L .. slot answer ..`: a remove.
-fn removed(before: Slots, slot: u32, after: Slots) -> String {
-    changed('L', &before, &[slot.into()], after.total.into(), &after)
+/// A remove.
+fn removed(before: Slots, slot: u32, after: Slots) -> Case {
+    changed(
+        "slots_remove",
+        &before,
+        &[slot.into()],
+        after.total.into(),
+        &after,
+    )
 }
 
-fn remove_refused(slots: Slots, slot: u32, c: u32) -> String {
-    refused('L', &slots, &[slot.into()], c)
+fn remove_refused(slots: Slots, slot: u32, c: u32) -> Case {
+    refused("slots_remove", &slots, &[slot.into()], c)
 }
 
-fn removes() -> Vec<String> {
+fn removes() -> Vec<Case> {
     vec![
         // The last slot: no byte is written, and the count falls by one only.
         removed(slots(1, &[1]), 0, slots(0, &[1])),
@@ -131,52 +127,63 @@ fn fit() -> Vec<(Slots, u64)> {
     ]
 }
 
-/// `Q .. slot fits len is_empty is_active`: for slots below the count, at it and above.
-fn queries() -> Vec<String> {
-    let mut lines = Vec::new();
+/// Whether the count fits, how many slots are active, whether none is, and whether a slot is.
+fn asked(slots: &Slots, slot: u32, answers: [u64; 4]) -> [Case; 4] {
+    let [fits, len, is_empty, is_active] = answers;
+    [
+        kept("slots_fits", slots, &[], fits),
+        kept("slots_len", slots, &[], len),
+        kept("slots_is_empty", slots, &[], is_empty),
+        kept("slots_is_active", slots, &[slot.into()], is_active),
+    ]
+}
+
+/// For slots below the count, at it and above.
+fn queries() -> Vec<Case> {
+    let mut cases = Vec::new();
     for slot in [0, 1, 2, 3, 4, u32::MAX] {
         for (slots, active) in fit() {
             let below = slot < slots.total;
             let is_active = below && slots.table[slot as usize] == 1;
             let is_empty = u64::from(active == 0);
-            let answers = [slot.into(), 1, active, is_empty, is_active.into()];
-            lines.push(line('Q', &slots, &answers));
+            cases.extend(asked(&slots, slot, [1, active, is_empty, is_active.into()]));
         }
         for slots in unfit() {
             let c = coded(Err(12));
-            lines.push(line('Q', &slots, &[slot.into(), 0, c, c, c]));
+            cases.extend(asked(&slots, slot, [0, c, c, c]));
         }
     }
-    lines
+    cases
 }
 
-/// `E .. state places got first` under state 0. `first_active` answers where `get` refuses too.
-fn found(slots: Slots, places: u64, got: Told<u64>, first: Option<u64>) -> String {
+/// Under state 0. `first_active` answers where `get` refuses too.
+fn found(slots: Slots, places: u64, got: Told<u64>, first: Option<u64>) -> Case {
     let (got, first) = (coded(got.map(Some)), first.unwrap_or(NONE));
-    line('E', &slots, &[0, places, got, first])
+    let table = ("table", numbers(&slots.table));
+    looked_up(slots.total.into(), table, 0, places as usize, got, first)
 }
 
 /// Under state 0 the choice order of 9 is 7, 3, 1, 4, 2, 8, 0, 5, 6.
 const ORDER: [u64; 9] = [7, 3, 1, 4, 2, 8, 0, 5, 6];
 
 /// One of nine slots active, in a scratch that is long enough, that just ends before it, and that ends with it.
-fn single_lookups() -> Vec<String> {
-    let mut lines = Vec::new();
+fn single_lookups() -> Vec<Case> {
+    let mut cases = Vec::new();
     for (before, slot) in ORDER.into_iter().enumerate() {
         let mut slots = slots(9, &[0; 9]);
         slots.table[slot as usize] = 1;
         let places = before as u64;
-        lines.push(found(slots.clone(), 9, Ok(slot), Some(slot)));
-        lines.push(found(slots.clone(), places, Err(4), None));
+        cases.push(found(slots.clone(), 9, Ok(slot), Some(slot)));
+        cases.push(found(slots.clone(), places, Err(4), None));
         if places < 8 {
-            lines.push(found(slots, places + 1, Err(4), Some(slot)));
+            cases.push(found(slots, places + 1, Err(4), Some(slot)));
         }
     }
-    lines
+    cases
 }
 
 /// Under state 0 the choice order of 3 is 1, 2, 0.
-fn lookups() -> Vec<String> {
+fn lookups() -> Vec<Case> {
     vec![
         found(slots(9, &[1; 9]), 9, Ok(7), Some(7)),
         found(slots(9, &[1, 1, 1, 1, 1, 1, 1, 0, 1]), 9, Ok(3), Some(3)),
@@ -198,7 +205,7 @@ fn lookups() -> Vec<String> {
 }
 
 /// 12 comes first. A byte past the table is as 0, and one above 1 is not 1.
-fn unfit_lookups() -> Vec<String> {
+fn unfit_lookups() -> Vec<Case> {
     vec![
         found(slots(9, &[1; 4]), 24, Err(12), Some(3)),
         found(slots(9, &[1; 4]), 2, Err(12), Some(3)),
@@ -236,10 +243,9 @@ fn remove(slots: &mut Slots, slot: usize) -> Told<u64> {
     Ok(slots.total.into())
 }
 
-/// `j bytes calls .. digest`.
-fn history(bytes: usize, calls: &[u64]) -> String {
+fn history(bytes: usize, calls: &[u64]) -> Case {
     let mut slots = slots(0, &vec![UNTOUCHED_BYTE; bytes]);
-    history_line(bytes, calls, |call| {
+    history_of(bytes, calls, |call| {
         let said = match call {
             0 => add(&mut slots),
             _ => remove(&mut slots, call as usize - 1),
@@ -248,14 +254,20 @@ fn history(bytes: usize, calls: &[u64]) -> String {
         let bytes = slots.table.iter().enumerate();
         let table: Vec<_> = bytes.map(|(i, &b)| (i < below && b == 1, b)).collect();
         let len = table.iter().filter(|(active, _)| *active).count() as u32;
-        (said, len, len == 0, table)
+        let after = After {
+            total: slots.total,
+            len,
+            is_empty: len == 0,
+            table,
+        };
+        (said, after)
     })
 }
 
 /// Document 01's own, and any calls.
-fn histories() -> Vec<String> {
+fn histories() -> Vec<Case> {
     let mut draws = Draws(9);
-    let mut lines = vec![
+    let mut cases = vec![
         history(4, &[0, 0, 0, 2, 3, 0]),
         history(4, &[0, 0, 0, 3, 2, 0]),
     ];
@@ -266,13 +278,13 @@ fn histories() -> Vec<String> {
                 _ => 1 + draws.below(bytes as u64 + 1),
             })
             .collect();
-        lines.push(history(bytes, &calls));
+        cases.push(history(bytes, &calls));
     }
-    lines
+    cases
 }
 
-pub fn handmade() -> Vec<String> {
-    let mut lines = [
+pub fn handmade() -> Vec<Case> {
+    let mut cases = [
         adds(),
         removes(),
         queries(),
@@ -282,11 +294,11 @@ pub fn handmade() -> Vec<String> {
     ]
     .concat();
     for slots in unfit() {
-        lines.push(add_refused(slots.clone(), 12));
+        cases.push(add_refused(slots.clone(), 12));
         for slot in [0, 2, 9] {
-            lines.push(remove_refused(slots.clone(), slot, 12));
+            cases.push(remove_refused(slots.clone(), slot, 12));
         }
     }
-    lines.extend(histories());
-    lines
+    cases.extend(histories());
+    cases
 }

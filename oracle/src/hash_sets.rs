@@ -7,6 +7,7 @@ use oracle::{
     Draws,
 };
 
+use crate::cases::Case;
 use crate::{coded, NONE};
 
 /// The largest n.
@@ -15,27 +16,29 @@ const LIMIT: u64 = 1 << 62;
 /// The bit that stands for no bucket.
 const BIT_63: u64 = 1 << 63;
 
-/// A call with a state and an n: its letter, and its answer.
-type Call = (char, fn(u64, u64) -> u64);
+/// A call with a state and an n: its name, and its answer.
+type Call = (&'static str, fn(u64, u64) -> u64);
 
 const CALLS: [Call; 5] = [
-    ('p', |state, n| prev(state, n).unwrap_or(NONE)),
-    ('i', |state, n| into_prev(state, n).unwrap_or(NONE)),
-    ('n', |state, n| next(state, n).unwrap_or(NONE)),
-    ('f', falling_digest),
-    ('r', rising_digest),
+    ("prev", |state, n| prev(state, n).unwrap_or(NONE)),
+    ("into_prev", |state, n| into_prev(state, n).unwrap_or(NONE)),
+    ("next", |state, n| next(state, n).unwrap_or(NONE)),
+    ("falling_digest", falling_digest),
+    ("rising_digest", rising_digest),
 ];
 
 /// The calls that rise, as document 02, §4, has them.
 const RISING: [Call; 2] = [
-    ('n', |state, n| {
+    ("next", |state, n| {
         hashes_from(state, n).first().copied().unwrap_or(NONE)
     }),
-    ('r', |state, n| digest(hashes_from(state, n).into_iter())),
+    ("rising_digest", |state, n| {
+        digest(hashes_from(state, n).into_iter())
+    }),
 ];
 
-fn rises(letter: char) -> bool {
-    RISING.iter().any(|&(rising, _)| rising == letter)
+fn rises(name: &str) -> bool {
+    RISING.iter().any(|&(rising, _)| rising == name)
 }
 
 /// No bucket, the lowest ones, all, and the same with bit 63.
@@ -114,13 +117,13 @@ fn pairs() -> Vec<(u64, u64)> {
     pairs
 }
 
-/// A letter, the state, n and the answer.
-fn line((letter, call): Call, state: u64, n: u64) -> String {
-    format!("{letter} {state:x} {n:x} {:x}", call(state, n))
+/// A call with a state and an n.
+fn case((name, call): Call, state: u64, n: u64) -> Case {
+    Case::of(name, &[state, n], call(state, n))
 }
 
-/// `s state i answer`.
-fn seq_builders() -> Vec<String> {
+/// `seq_builder state i`.
+fn seq_builders() -> Vec<Case> {
     let mut draws = Draws(4);
     let mut pairs = Vec::new();
     for i in [0, 1, u64::MAX] {
@@ -129,18 +132,18 @@ fn seq_builders() -> Vec<String> {
     pairs.extend(states().iter().map(|&s| (s, any_length(&mut draws))));
     pairs
         .iter()
-        .map(|&(state, i)| format!("s {state:x} {i:x} {:x}", seq_builder(state, i)))
+        .map(|&(state, i)| Case::of("seq_builder", &[state, i], seq_builder(state, i)))
         .collect()
 }
 
-/// Those, then a letter of `CALLS`, the state, n and the answer. What rises from where the original skips is left out.
-pub fn hashes() -> Vec<String> {
-    let mut lines = seq_builders();
+/// Those, then each of `CALLS` with states and an n. What rises from where the original skips is left out.
+pub fn hashes() -> Vec<Case> {
+    let mut cases = seq_builders();
     for (state, n) in pairs() {
         let compared = CALLS.into_iter().filter(|&(c, _)| !(rises(c) && skips(n)));
-        lines.extend(compared.map(|call| line(call, state, n)));
+        cases.extend(compared.map(|call| case(call, state, n)));
     }
-    lines
+    cases
 }
 
 /// The starts that are left out there, and more: the laws' examples, and states of which n is a hash.
@@ -161,24 +164,23 @@ fn skipped_starts() -> Vec<(u64, u64)> {
     starts
 }
 
-/// A letter of `RISING`, the state, an n with n+1 a power of two from 2 up, and the answer.
-pub fn rising_starts() -> Vec<String> {
-    let lines = skipped_starts().into_iter();
-    lines
-        .flat_map(|(state, n)| RISING.map(|call| line(call, state, n)))
+/// Each of `RISING` with a state and an n, n+1 a power of two from 2 up.
+pub fn rising_starts() -> Vec<Case> {
+    let starts = skipped_starts().into_iter();
+    starts
+        .flat_map(|(state, n)| RISING.map(|call| case(call, state, n)))
         .collect()
 }
 
-/// A letter, the state, an n above the limit, and 2^63 + 1: by document 01, since the original answers there too.
-pub fn refusals() -> Vec<String> {
+/// Each call with an n above the limit: by document 01, since the original answers there too.
+pub fn refusals() -> Vec<Case> {
     let refused = coded(Err(1));
-    let mut lines = Vec::new();
-    for (letter, _) in CALLS {
+    let mut cases = Vec::new();
+    for (name, _) in CALLS {
         for state in STATES {
-            for n in [LIMIT + 1, LIMIT + 2, BIT_63 - 1, BIT_63, u64::MAX] {
-                lines.push(format!("{letter} {state:x} {n:x} {refused:x}"));
-            }
+            let above = [LIMIT + 1, LIMIT + 2, BIT_63 - 1, BIT_63, u64::MAX];
+            cases.extend(above.map(|n| Case::of(name, &[state, n], refused)));
         }
     }
-    lines
+    cases
 }

@@ -1,14 +1,17 @@
-//! Prints answers of the original for stated inputs, a line each: a letter, then numbers in hexadecimal.
+//! Prints answers of the original for stated inputs, as calls on memory that is lent.
 //!
-//! oracle SET: the answers of that set. oracle expected: what the replay of all sets prints. oracle lines FOLDER: writes the
-//! stored inputs of the line program to a folder, and what it must print for each. oracle differences: holds the original to what
+//! oracle SET: the answers of that set. oracle wrong: wrong ones. oracle expected: what the replay of all sets prints. oracle counts: how
+//! many calls and answers each set has. oracle lines FOLDER: writes the stored inputs of the line program to a folder, and what it must
+//! print for each. oracle differences: holds the original to what
 //! docs/DIFFERENCES.md says of it, status 1 where that is wrong.
 
+mod cases;
 mod chooser_sets;
 mod difference_claims;
 mod differences;
 mod handmade;
 mod handmade_choosers;
+mod handmade_orders;
 mod handmade_sets;
 mod handmade_slots;
 mod hash_sets;
@@ -18,9 +21,11 @@ mod order_sets;
 mod reservoir_sets;
 mod round_sets;
 mod slot_sets;
+mod wrong_answers;
 
 use std::path::Path;
 
+use cases::Case;
 use oracle::{layer_apply, splitmix64, Draws, Told};
 
 /// Keys that show a slip in the key schedule: nothing set, the lowest bit, the lowest bit of the high half, all.
@@ -42,11 +47,6 @@ fn done(said: Told<()>) -> u64 {
     coded(said.map(|()| Some(0)))
 }
 
-/// Numbers of a line.
-fn spelt(numbers: &[u64]) -> String {
-    numbers.iter().map(|x| format!(" {x:x}")).collect()
-}
-
 /// Those keys and some more.
 fn keys(more: usize, draws: &mut Draws) -> Vec<u64> {
     let mut keys = KEYS.to_vec();
@@ -54,8 +54,8 @@ fn keys(more: usize, draws: &mut Draws) -> Vec<u64> {
     keys
 }
 
-/// `m v mix(v)`.
-fn mix() -> Vec<String> {
+/// `splitmix64 v`.
+fn mix() -> Vec<Case> {
     let mut inputs = vec![0, u64::MAX, 54387634019, 0x9E37_79B9_7F4A_7C15];
     inputs.extend((0..64).map(|bit| 1u64 << bit));
     inputs.extend((0..64).map(|bit| u64::MAX << bit));
@@ -63,7 +63,7 @@ fn mix() -> Vec<String> {
     inputs.extend((0..368).map(|_| draws.next()));
     inputs
         .iter()
-        .map(|&v| format!("m {v:x} {:x}", splitmix64(v)))
+        .map(|&v| Case::of("splitmix64", &[v], splitmix64(v)))
         .collect()
 }
 
@@ -77,42 +77,43 @@ fn inputs(size: u64, draws: &mut Draws) -> Vec<u64> {
     chosen
 }
 
-/// `l layer key x output`.
-fn layers() -> Vec<String> {
+fn layer_case(layer: u32, key: u64, x: u64, said: u64) -> Case {
+    Case::of("layer_apply", &[layer.into(), key, x], said)
+}
+
+fn layers() -> Vec<Case> {
     let mut draws = Draws(2);
-    let mut lines = Vec::new();
+    let mut cases = Vec::new();
     for layer in 0..15u32 {
         for key in keys(4, &mut draws) {
             for x in inputs(1 << (2 * layer + 2), &mut draws) {
                 let y = layer_apply(layer, key, x as u32);
-                lines.push(format!("l {layer:x} {key:x} {x:x} {y:x}"));
+                cases.push(layer_case(layer, key, x, y.into()));
             }
         }
     }
-    lines
+    cases
 }
 
-/// `l layer key x 2^32 + 12`: by document 01, since the original tests neither the layer nor the input.
-fn layer_refusals() -> Vec<String> {
+/// Refusal 12 of a layer, by document 01, since the original tests neither the layer nor the input.
+fn layer_refusals() -> Vec<Case> {
     let refused = (1u64 << 32) + 12;
-    let mut lines = Vec::new();
+    let mut cases = Vec::new();
     for key in KEYS {
         for layer in [15, 16, 31, 1 << 31, u32::MAX] {
-            for x in [0, 1, u32::MAX] {
-                lines.push(format!("l {layer:x} {key:x} {x:x} {refused:x}"));
-            }
+            let inputs = [0, 1, u32::MAX.into()];
+            cases.extend(inputs.map(|x| layer_case(layer, key, x, refused)));
         }
         for layer in 0..15u32 {
-            let size = 1u32 << (2 * layer + 2);
-            for x in [size, size + 1, u32::MAX] {
-                lines.push(format!("l {layer:x} {key:x} {x:x} {refused:x}"));
-            }
+            let size = 1u64 << (2 * layer + 2);
+            let inputs = [size, size + 1, u32::MAX.into()];
+            cases.extend(inputs.map(|x| layer_case(layer, key, x, refused)));
         }
     }
-    lines
+    cases
 }
 
-fn refusals() -> Vec<String> {
+fn refusals() -> Vec<Case> {
     [
         layer_refusals(),
         hash_sets::refusals(),
@@ -121,20 +122,8 @@ fn refusals() -> Vec<String> {
     .concat()
 }
 
-/// A set's name, where its answers are from, and its lines.
-type Set = (&'static str, &'static str, fn() -> Vec<String>);
-
-/// How the lines of a set read, to stand at the head of its file; nothing where its module has no such text.
-fn how(name: &str) -> &'static str {
-    match name {
-        "choosers" => chooser_sets::HOW,
-        "slots" => slot_sets::HOW,
-        "handmade_choosers" => handmade_choosers::HOW,
-        "handmade_slots" => handmade_slots::HOW,
-        "rounds" => round_sets::HOW,
-        _ => "",
-    }
-}
+/// A set's name, where its answers are from, and its cases.
+type Set = (&'static str, &'static str, fn() -> Vec<Case>);
 
 const ORIGINAL: &str = "consistent-choose-k of github/rust-gems 9804c5bc17, built in release";
 
@@ -186,31 +175,74 @@ const SETS: [Set; 13] = [
     ("rounds", ORIGINAL_IN_ROUNDS, round_sets::rounds),
 ];
 
+/// The wrong answers' file has this name.
+const WRONG: &str = "wrong";
+
+/// The lines of a file: how it was made, how it reads, and its cases or their wrong answers.
+fn file(name: &str) -> Option<Vec<String>> {
+    let (from, lines) = if name == WRONG {
+        let all: Vec<_> = SETS.iter().flat_map(|(_, _, cases)| cases()).collect();
+        let from = "Answers of the other files, each with a bit changed: the library must agree with none.";
+        (from.to_string(), wrong_answers::lines(&all))
+    } else {
+        let (_, from, cases) = SETS.iter().find(|(set, _, _)| *set == name)?;
+        (format!("Answers of {from}."), cases::lines(&cases()))
+    };
+    let mut file = vec![format!("# {name}: made by oracle/make. {from}")];
+    file.extend(cases::HOW.lines().map(|line| format!("# {line}")));
+    file.extend(lines);
+    Some(file)
+}
+
+/// The numbers of the lines with an answer.
+fn answers(file: &[String]) -> Vec<usize> {
+    let lines = (1..).zip(file).filter(|(_, line)| !line.starts_with('#'));
+    lines
+        .filter(|(_, line)| line.contains(" = "))
+        .map(|(number, _)| number)
+        .collect()
+}
+
+/// What the replay of all files prints.
+fn expected() {
+    for (name, _, _) in SETS {
+        let compared = answers(&file(name).expect("a set")).len();
+        println!("{name}: {compared} answers compared, all agree");
+    }
+    let answers = answers(&file(WRONG).expect("the wrong ones"));
+    let wrong = answers.len() + wrong_answers::UNANSWERED.len();
+    let first = answers[0];
+    println!("{WRONG}: {wrong} answers compared, {wrong} differ, the first in line {first}");
+}
+
+fn counts() {
+    for (name, _, cases) in SETS {
+        let counts = cases()
+            .iter()
+            .map(Case::counts)
+            .fold((0, 0), |(a, b), (c, d)| (a + c, b + d));
+        println!("{name}: {} calls, {} answers", counts.0, counts.1);
+    }
+}
+
 fn main() {
     let wanted = std::env::args().nth(1).unwrap_or_default();
-    if wanted == "expected" {
-        for (name, _, lines) in SETS {
-            println!("{name}: {} answers compared, all agree", lines().len());
+    match wanted.as_str() {
+        "expected" => expected(),
+        "counts" => counts(),
+        "differences" => std::process::exit(if differences::hold() { 0 } else { 1 }),
+        "lines" => {
+            let folder = std::env::args().nth(2).unwrap_or_default();
+            line_sets::write(Path::new(&folder)).unwrap_or_else(|e| panic!("{folder}: {e}"));
         }
-        return;
+        name => {
+            let Some(file) = file(name) else {
+                let names: Vec<_> = SETS.iter().map(|(name, _, _)| *name).collect();
+                let names = names.join(" | ");
+                eprintln!("usage: oracle {names} | {WRONG} | expected | counts | lines FOLDER | differences");
+                std::process::exit(2);
+            };
+            file.iter().for_each(|line| println!("{line}"));
+        }
     }
-    if wanted == "differences" {
-        std::process::exit(if differences::hold() { 0 } else { 1 });
-    }
-    if wanted == "lines" {
-        let folder = std::env::args().nth(2).unwrap_or_default();
-        line_sets::write(Path::new(&folder)).unwrap_or_else(|e| panic!("{folder}: {e}"));
-        return;
-    }
-    let Some((name, from, lines)) = SETS.iter().find(|(name, _, _)| *name == wanted) else {
-        let names: Vec<_> = SETS.iter().map(|(name, _, _)| *name).collect();
-        eprintln!(
-            "usage: oracle {} | expected | lines FOLDER | differences",
-            names.join(" | ")
-        );
-        std::process::exit(2);
-    };
-    println!("# {name}: made by oracle/make. Answers of {from}.");
-    how(name).lines().for_each(|line| println!("# {line}"));
-    lines().iter().for_each(|line| println!("{line}"));
 }

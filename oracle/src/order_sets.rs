@@ -1,29 +1,31 @@
 //! The set of orders: answers of the original for keys and numbers n.
 
-use oracle::{digest, order_digest, Draws, Order};
+use oracle::{order_digest, Draws, Order};
 
+use crate::cases::{numbers, untouched, Case};
 use crate::{coded, keys, KEYS, NONE};
 
 /// The largest n.
 const LIMIT: u32 = 1 << 30;
 
-/// `o n key count digest`: the numbers of `count` calls.
-fn digested(n: u32, key: u64, count: u32) -> String {
+/// The numbers of `count` calls.
+fn digested(n: u32, key: u64, count: u32) -> Case {
     let digest = order_digest(n, key, count);
-    format!("o {n:x} {key:x} {count:x} {digest:x}")
+    Case::of("order_digest", &[n.into(), key, count.into()], digest)
 }
 
-/// `w n key count digest`: `new` and each of `count` calls, what it says and the words of the record after it.
-fn walked(n: u32, key: u64, count: u32) -> String {
+/// `new` and each of `count` calls.
+fn walked(n: u32, key: u64, count: u32) -> Case {
     let mut order = Order::new(n, key);
-    let mut numbers = vec![0];
-    numbers.extend(order.words().map(u64::from));
+    let mut case = Case::lent([untouched("words", 18)]);
+    let left = |order: &Order| [("words", numbers(&order.words()))];
+    case.call("order_new", &[n.into(), key], 0, left(&order));
     for _ in 0..count {
-        numbers.push(order.next().map_or(NONE, u64::from));
-        numbers.extend(order.words().map(u64::from));
+        let said = order.next().map_or(NONE, u64::from);
+        case.call("order_next", &[], said, left(&order));
     }
-    let digest = digest(numbers.into_iter());
-    format!("w {n:x} {key:x} {count:x} {digest:x}")
+    case.compare();
+    case
 }
 
 /// 4^j and one off on both sides, up to the limit, where whole orders are long.
@@ -35,37 +37,37 @@ fn boundaries() -> Vec<u32> {
     all
 }
 
-pub fn orders() -> Vec<String> {
+pub fn orders() -> Vec<Case> {
     let mut draws = Draws(5);
-    let mut lines = Vec::new();
+    let mut cases = Vec::new();
     // Whole orders, and two calls more.
     for key in keys(4, &mut draws) {
-        lines.extend((0..=70).map(|n| digested(n, key, n + 2)));
+        cases.extend((0..=70).map(|n| digested(n, key, n + 2)));
     }
     for key in keys(1, &mut draws) {
-        lines.extend((0..=70).map(|n| walked(n, key, n + 2)));
+        cases.extend((0..=70).map(|n| walked(n, key, n + 2)));
     }
     // First numbers.
     for n in boundaries() {
         for key in keys(1, &mut draws) {
-            lines.push(digested(n, key, 200));
-            lines.push(walked(n, key, 20));
+            cases.push(digested(n, key, 200));
+            cases.push(walked(n, key, 20));
         }
     }
     for _ in 0..40 {
         let n = (draws.below(1 << 30) >> draws.below(24)) as u32;
-        lines.push(digested(n, draws.next(), 200));
-        lines.push(walked(n, draws.next(), 20));
+        cases.push(digested(n, draws.next(), 200));
+        cases.push(walked(n, draws.next(), 20));
     }
-    lines
+    cases
 }
 
-/// `o n key count 2^63 + 1` for an n above the limit.
-pub fn refusals() -> Vec<String> {
+/// An n above the limit.
+pub fn refusals() -> Vec<Case> {
     let refused = coded(Err(1));
-    let mut lines = Vec::new();
+    let mut cases = Vec::new();
     for n in [LIMIT + 1, 1 << 31, u32::MAX] {
-        lines.extend(KEYS.map(|key| format!("o {n:x} {key:x} 2 {refused:x}")));
+        cases.extend(KEYS.map(|key| Case::of("order_digest", &[n.into(), key, 2], refused)));
     }
-    lines
+    cases
 }

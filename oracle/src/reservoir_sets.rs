@@ -1,7 +1,8 @@
 //! The set of reservoirs: histories of the original, each in memory of a stated length.
 
-use oracle::{digest, Draws, Reservoir, Told};
+use oracle::{Draws, Reservoir, Told};
 
+use crate::cases::{numbers, untouched, Case, Part};
 use crate::{coded, done, keys};
 
 /// The longest list that the replay lends.
@@ -18,50 +19,52 @@ struct History {
     grows: bool,
 }
 
+/// The record's words and the list.
+fn left(lent: &Reservoir) -> [Part; 2] {
+    [
+        ("words", numbers(&lent.words)),
+        ("list", numbers(&lent.list)),
+    ]
+}
+
 impl History {
-    /// What each call says and the memory after it, in a list of so many places.
-    fn follow(&self, places: usize, mut each: impl FnMut(u64, &Reservoir)) {
+    /// Each call's name, what it takes and says, and the memory after it, in a list of so many places.
+    fn follow(&self, places: usize, mut each: impl FnMut(&'static str, &[u64], u64, &Reservoir)) {
         let mut lent = Reservoir::lent(places);
         let said = lent.open(self.k, self.n, self.key);
-        each(done(said), &lent);
+        let taken = [self.k.into(), self.n.into(), self.key];
+        each("reservoir_new", &taken, done(said), &lent);
         for _ in 0..self.admits {
             let [_, _, k, _, j_max, used] = lent.words;
             if self.grows && used == k && j_max < 14 {
                 let said = lent.grow_layer();
-                each(done(said), &lent);
+                each("reservoir_grow_layer", &[], done(said), &lent);
             }
             let said = lent.admit();
-            each(exchanged(said), &lent);
+            each("reservoir_next", &[], exchanged(said), &lent);
         }
     }
 
-    /// `a key k n places admits digest`, or `g ..` with `grow_layer`: what each call says, the record's words and every place
-    /// of the list after it.
-    fn line(&self, places: usize) -> String {
-        let mut numbers = Vec::new();
-        self.follow(places, |said, lent| {
-            numbers.push(said);
-            numbers.extend(lent.words.iter().chain(&lent.list).map(|&x| u64::from(x)));
+    fn case(&self, places: usize) -> Case {
+        let mut case = Case::lent([untouched("words", 6), untouched("list", places)]);
+        self.follow(places, |name, taken, said, lent| {
+            case.call(name, taken, said, left(lent));
         });
-        let letter = if self.grows { 'g' } else { 'a' };
-        let digest = digest(numbers.into_iter());
-        let &History {
-            key, k, n, admits, ..
-        } = self;
-        format!("{letter} {key:x} {k:x} {n:x} {places:x} {admits:x} {digest:x}")
+        case.compare();
+        case
     }
 
     /// The greatest used length that a call ends with.
     fn longest(&self) -> usize {
         let mut longest = 0;
-        self.follow(PLACES, |_, lent| longest = longest.max(lent.words[5]));
+        self.follow(PLACES, |_, _, _, lent| longest = longest.max(lent.words[5]));
         longest as usize
     }
 
     /// In a list that just holds what each call ends with, and in one that lacks a place for that: refusal 4.
-    fn tight(&self) -> [String; 2] {
+    fn tight(&self) -> [Case; 2] {
         let longest = self.longest();
-        [self.line(longest), self.line(longest - 1)]
+        [self.case(longest), self.case(longest - 1)]
     }
 }
 
@@ -89,9 +92,9 @@ fn any(draws: &mut Draws) -> (u32, u32) {
 /// Key, k, n and a number of admits: layers that are skipped; none at the limit; a growth by eight outputs that ends with five.
 const MARKED: [(u64, u32, u32, u32); 3] = [(3, 1, 1, 12), (0xa, 1, 1 << 28, 12), (0, 2, 4, 1)];
 
-pub fn reservoirs() -> Vec<String> {
+pub fn reservoirs() -> Vec<Case> {
     let mut draws = Draws(6);
-    let mut lines = Vec::new();
+    let mut cases = Vec::new();
     let mut add = |(k, n), key, admits| {
         let plain = History {
             key,
@@ -100,14 +103,14 @@ pub fn reservoirs() -> Vec<String> {
             admits,
             grows: false,
         };
-        lines.push(plain.line(PLACES));
-        lines.extend(plain.tight());
+        cases.push(plain.case(PLACES));
+        cases.extend(plain.tight());
         let grown = History {
             grows: true,
             ..plain
         };
-        lines.push(grown.line(PLACES));
-        lines.push(grown.line(plain.longest()));
+        cases.push(grown.case(PLACES));
+        cases.push(grown.case(plain.longest()));
     };
     for (key, k, n, admits) in MARKED {
         add((k, n), key, admits);
@@ -118,5 +121,5 @@ pub fn reservoirs() -> Vec<String> {
     for _ in 0..60 {
         add(any(&mut draws), draws.next(), 40);
     }
-    lines
+    cases
 }

@@ -1,20 +1,9 @@
 //! The set of rounds: histories over the original's own types, each in memory of stated lengths, call by call and in one replay.
 
-use oracle::{digest, splitmix64, Draws, Round, RoundCall, Told, UNTOUCHED};
+use oracle::{splitmix64, Draws, Round, RoundCall, Told, UNTOUCHED};
 
-use crate::{coded, done, spelt};
-
-/// How its lines read.
-pub const HOW: &str = "\
-h key k n places bytes locations terminals scratch calls c1 c2 .. digest: a history from round_open with key, k and n. The list
-has so many places, at most 256, the two lists of a plan and its scratch at most 24, all ones at first, as are the record's
-seven words. The table has so many bytes, at most 24; byte i is mix(key xor i) mod 3 at first. Of the calls, at most 53, each has
-a number: 0 is round_admit, 1 round_join, 2 round_plan, 2^32 + slot round_withdraw, 2^33 + m round_open with that key and k, and
-m for n. The digest is fed, after each call, the first open too, with its answer, the words, the list, the table and the plan's
-two lists.
-b key k n places bytes locations terminals scratch answers calls c1 c2 .. digest: round_replay of at most 52 calls, in the same
-memory and in a list of so many answers, at most 256, all ones at first. The digest is fed with its answer, the answers, the
-list, the table and the plan's two lists.";
+use crate::cases::{numbers, untouched, Case, Part};
+use crate::{coded, done};
 
 /// The longest list of a history and the longest one of a plan that the replay lends.
 const PLACES: u64 = 256;
@@ -54,12 +43,6 @@ impl Start {
         }
     }
 
-    fn spelt(&self) -> String {
-        let lent = [self.places, self.bytes, self.locations, self.terminals];
-        let opened = [self.key, self.k.into(), self.n.into()];
-        [spelt(&opened), spelt(&lent), spelt(&[self.scratch])].concat()
-    }
-
     fn lent(&self) -> Memory {
         let table = (0..self.bytes).map(|i| (splitmix64(self.key ^ i) % 3) as u8);
         Memory {
@@ -70,28 +53,50 @@ impl Start {
         }
     }
 
-    /// `h .. calls c1 c2 .. digest`.
-    fn history(&self, calls: &[u64]) -> String {
-        let mut lent = self.lent();
-        let mut numbers = Vec::new();
-        for call in std::iter::once(OPEN + u64::from(self.n)).chain(calls.iter().copied()) {
-            numbers.push(lent.called(call));
-            numbers.extend(lent.round.words().map(u64::from));
-            numbers.extend(lent.left());
-        }
-        let digest = digest(numbers.into_iter());
-        let count = [calls.len() as u64];
-        format!(
-            "h{}{}{} {digest:x}",
-            self.spelt(),
-            spelt(&count),
-            spelt(calls)
-        )
+    /// What is lent for a history, and for a replay.
+    fn parts(&self, lent: &Memory) -> Vec<Part> {
+        let mut parts = lent.left();
+        parts.push(untouched("scratch", self.scratch as usize));
+        parts
     }
 
-    /// `b .. answers calls c1 c2 .. digest`.
-    fn replay(&self, answers: u64, calls: &[u64]) -> String {
+    /// Call by call, and last whether the round fits.
+    fn history(&self, calls: &[u64]) -> Case {
         let mut lent = self.lent();
+        let mut case = Case::lent(self.parts(&lent));
+        case.lend(untouched("words", 7));
+        for call in std::iter::once(OPEN + u64::from(self.n)).chain(calls.iter().copied()) {
+            let (name, taken) = self.call(call);
+            let said = lent.called(call);
+            case.call(name, &taken, said, lent.after());
+        }
+        case.call("round_fits", &[], lent.round.opened().into(), []);
+        case.compare();
+        case
+    }
+
+    /// A call's name and what it takes.
+    fn call(&self, number: u64) -> (&'static str, Vec<u64>) {
+        if number == PLAN {
+            return ("round_plan", vec![]);
+        }
+        if number >= OPEN {
+            let taken = vec![self.key, self.k.into(), number - OPEN];
+            return ("round_open", taken);
+        }
+        match RoundCall::of(number).expect("a call") {
+            RoundCall::Admit => ("round_admit", vec![]),
+            RoundCall::Join => ("round_join", vec![]),
+            RoundCall::Withdraw(slot) => ("round_withdraw", vec![slot.into()]),
+        }
+    }
+
+    /// In one call, with so many answers.
+    fn replay(&self, answers: u64, calls: &[u64]) -> Case {
+        let mut lent = self.lent();
+        let mut case = Case::lent(self.parts(&lent));
+        case.lend(("wide_list", calls.to_vec()));
+        case.lend(untouched("answers", answers as usize));
         let mut said = vec![UNTOUCHED; answers as usize];
         let told = lent.round.replay(
             (self.key, self.k, self.n),
@@ -101,17 +106,12 @@ impl Start {
             &mut lent.terminals,
             self.scratch as usize,
         );
-        let mut numbers = vec![done(told)];
-        numbers.extend(said.into_iter().map(u64::from));
-        numbers.extend(lent.left());
-        let digest = digest(numbers.into_iter());
-        let counts = [answers, calls.len() as u64];
-        format!(
-            "b{}{}{} {digest:x}",
-            self.spelt(),
-            spelt(&counts),
-            spelt(calls)
-        )
+        let mut left = lent.left();
+        left.push(("answers", numbers(&said)));
+        let taken = [self.key, self.k.into(), self.n.into()];
+        case.call("round_replay", &taken, done(told), left);
+        case.compare();
+        case
     }
 }
 
@@ -150,12 +150,20 @@ impl Memory {
     }
 
     /// The list, the table and the plan's two lists.
-    fn left(&self) -> Vec<u64> {
-        let mut numbers: Vec<u64> = self.round.list().iter().map(|&x| x.into()).collect();
-        numbers.extend(self.round.table().iter().map(|&byte| u64::from(byte)));
-        let plan = self.locations.iter().chain(&self.terminals);
-        numbers.extend(plan.map(|&x| u64::from(x)));
-        numbers
+    fn left(&self) -> Vec<Part> {
+        vec![
+            ("list", numbers(self.round.list())),
+            ("table", numbers(self.round.table())),
+            ("locations", numbers(&self.locations)),
+            ("terminals", numbers(&self.terminals)),
+        ]
+    }
+
+    /// The same and the record's words.
+    fn after(&self) -> Vec<Part> {
+        let mut parts = self.left();
+        parts.push(("words", numbers(&self.round.words())));
+        parts
     }
 }
 
@@ -225,7 +233,7 @@ fn refused(draws: &mut Draws) -> Start {
 }
 
 /// A history call by call, and the changes in it as one replay.
-fn both(start: Start, draws: &mut Draws) -> [String; 2] {
+fn both(start: Start, draws: &mut Draws) -> [Case; 2] {
     let count = draws.below(52);
     let calls: Vec<u64> = (0..count).map(|_| any_call(&start, draws)).collect();
     let mut changes: Vec<u64> = (0..count).map(|_| any_change(start.bytes, draws)).collect();
@@ -244,7 +252,7 @@ fn both(start: Start, draws: &mut Draws) -> [String; 2] {
 
 /// The line program's example; layers that are skipped; none at the limit; a growth that ends with fewer places; document 01's
 /// "Three joins, then withdraw 1, 2 .. or 2, 1".
-fn marked() -> Vec<String> {
+fn marked() -> Vec<Case> {
     let joined = [1, 1, 1];
     let after = |calls: &[u64]| [&joined, calls, &[PLAN]].concat();
     vec![
@@ -257,18 +265,18 @@ fn marked() -> Vec<String> {
     ]
 }
 
-pub fn rounds() -> Vec<String> {
+pub fn rounds() -> Vec<Case> {
     let mut draws = Draws(10);
-    let mut lines = marked();
+    let mut cases = marked();
     for _ in 0..120 {
         let start = any_start(&mut draws);
-        lines.extend(both(start, &mut draws));
+        cases.extend(both(start, &mut draws));
         let start = tight(any_start(&mut draws), &mut draws);
-        lines.extend(both(start, &mut draws));
+        cases.extend(both(start, &mut draws));
     }
     for _ in 0..20 {
         let start = refused(&mut draws);
-        lines.extend(both(start, &mut draws));
+        cases.extend(both(start, &mut draws));
     }
-    lines
+    cases
 }

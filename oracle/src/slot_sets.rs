@@ -1,21 +1,10 @@
 //! The set of slots: lookups of the original in tables with slots deleted, histories with at most one slot deleted at a time,
 //! and states of locations.
 
-use oracle::{digest, location_state, splitmix64, Draws, Slots, Told};
+use oracle::{location_state, splitmix64, Draws, Slots, Told};
 
-use crate::{coded, keys, spelt};
-
-/// How its lines read.
-pub const HOW: &str = "\
-e total bytes seed percent kept state places got first: lookups in a table of so many bytes, at most 4096, of which the first
-total stand for slots. With d = mix(seed xor i), byte i is, from total on, d mod 256; below total, 1 where i = kept or
-d mod 100 is percent or more, else 0. The scratch has so many places, at most 4096. got is slots_get's answer with the state,
-first that of first_active.
-j bytes calls c1 c2 .. digest: a history in a table of so many bytes, at most 24, each 255 at first, from total 0 on. Of its
-calls, at most 58, each has a number: 0 is slots_add, 1 + slot is slots_remove of that slot. The digest is fed, after each call,
-with its answer, that of slots_len, that of slots_is_empty, and for each byte of the table with what slots_is_active says of its
-slot and with the byte.
-u key location state: location_state.";
+use crate::cases::{numbers, untouched, Case, Part};
+use crate::{coded, keys};
 
 /// A lookup: how many slots, the table's length, by what it is filled, and the scratch's length.
 #[derive(Clone, Copy)]
@@ -43,21 +32,21 @@ impl Lookup {
         Slots::with(self.total as u32, table)
     }
 
-    fn line(&self, state: u64) -> String {
+    /// `get`, and the lookup without its tests.
+    fn case(&self, state: u64) -> Case {
         let slots = self.slots();
         let places = self.places as usize;
-        let got = coded(slots.get(state, places).map(|slot| Some(slot.into())));
-        let first = coded(Ok(slots.first_active(state, places).map(u64::from)));
-        let &Lookup {
-            total,
-            bytes,
-            seed,
-            percent,
-            kept,
+        let got = slots.get(state, places).map(|slot| Some(slot.into()));
+        let first = slots.first_active(state, places).map(u64::from);
+        let table = ("table", numbers(&slots.table));
+        looked_up(
+            self.total,
+            table,
+            state,
             places,
-        } = self;
-        let table = format!("{total:x} {bytes:x} {seed:x} {percent:x} {kept:x}");
-        format!("e {table} {state:x} {places:x} {got:x} {first:x}")
+            coded(got),
+            coded(Ok(first)),
+        )
     }
 
     /// So many slots and no byte more, a part of them deleted, and a scratch that is long enough.
@@ -73,12 +62,22 @@ impl Lookup {
     }
 }
 
+/// Both lookups in a table with so many slots, by a scratch of so many places.
+pub fn looked_up(total: u64, table: Part, state: u64, places: usize, got: u64, first: u64) -> Case {
+    let mut case = Case::lent([table, untouched("scratch", places)]);
+    for (name, said) in [("slots_get", got), ("first_active", first)] {
+        case.call(name, &[total, state], said, []);
+        case.compare();
+    }
+    case
+}
+
 /// Few slots: none of them deleted, some, all but one, all; bytes behind the count; a scratch too short.
-fn few(total: u64, draws: &mut Draws) -> Vec<String> {
-    let mut lines = Vec::new();
+fn few(total: u64, draws: &mut Draws) -> Vec<Case> {
+    let mut cases = Vec::new();
     for percent in [0, 30, 60, 90, 100] {
         let lookup = Lookup::of(total, percent, draws);
-        lines.push(lookup.line(draws.next()));
+        cases.push(lookup.case(draws.next()));
     }
     let bytes = total + draws.below(10);
     let behind = Lookup {
@@ -86,22 +85,22 @@ fn few(total: u64, draws: &mut Draws) -> Vec<String> {
         places: bytes,
         ..Lookup::of(total, 70, draws)
     };
-    lines.push(behind.line(draws.next()));
+    cases.push(behind.case(draws.next()));
     let none = Lookup {
         kept: total,
         ..Lookup::of(total, 100, draws)
     };
-    lines.push(none.line(draws.next()));
+    cases.push(none.case(draws.next()));
     let short = Lookup {
         places: draws.below(total.max(1)),
         ..Lookup::of(total, 80, draws)
     };
-    lines.push(short.line(draws.next()));
-    lines
+    cases.push(short.case(draws.next()));
+    cases
 }
 
-fn lookups(draws: &mut Draws) -> Vec<String> {
-    let mut lines: Vec<String> = (0..=70).flat_map(|total| few(total, draws)).collect();
+fn lookups(draws: &mut Draws) -> Vec<Case> {
+    let mut cases: Vec<Case> = (0..=70).flat_map(|total| few(total, draws)).collect();
     for (total, percent, count) in [
         (256, 0, 16),
         (256, 50, 32),
@@ -114,10 +113,10 @@ fn lookups(draws: &mut Draws) -> Vec<String> {
     ] {
         for _ in 0..count {
             let lookup = Lookup::of(total, percent, draws);
-            lines.push(lookup.line(draws.next()));
+            cases.push(lookup.case(draws.next()));
         }
     }
-    lines
+    cases
 }
 
 /// What a call says: the count after it, and for an add the slot too.
@@ -146,23 +145,46 @@ fn removed(slots: &Slots, draws: &mut Draws) -> u64 {
     }
 }
 
-/// What a call says, and after it how many slots are active, whether none is, and for each byte of the table whether its slot
-/// is active, and the byte.
-pub type After = (Told<u64>, u32, bool, Vec<(bool, u8)>);
+/// A table after a call: the slot count, how many slots are active, whether none is, and for each byte whether its slot is active, and
+/// the byte.
+pub struct After {
+    pub total: u32,
+    pub len: u32,
+    pub is_empty: bool,
+    pub table: Vec<(bool, u8)>,
+}
 
-/// `j bytes calls c1 c2 .. digest`.
-pub fn history_line(bytes: usize, calls: &[u64], mut made: impl FnMut(u64) -> After) -> String {
-    let mut numbers = Vec::new();
-    for &call in calls {
-        let (said, len, is_empty, table) = made(call);
-        numbers.extend([coded(said.map(Some)), len.into(), is_empty.into()]);
-        for (active, byte) in table {
-            numbers.extend([u64::from(active), byte.into()]);
-        }
+/// What is said of the slots after a call.
+fn asked(case: &mut Case, after: &After) {
+    let total = u64::from(after.total);
+    case.call("slots_len", &[total], after.len.into(), []);
+    case.call("slots_is_empty", &[total], after.is_empty.into(), []);
+    for (slot, &(active, _)) in after.table.iter().enumerate() {
+        case.call("slots_is_active", &[total, slot as u64], active.into(), []);
     }
-    let digest = digest(numbers.into_iter());
-    let lent = [bytes as u64, calls.len() as u64];
-    format!("j{}{} {digest:x}", spelt(&lent), spelt(calls))
+}
+
+/// Calls in a table of so many bytes, from no slot on: 0 is an add, 1 + slot a remove of that slot.
+pub fn history_of(
+    bytes: usize,
+    calls: &[u64],
+    mut made: impl FnMut(u64) -> (Told<u64>, After),
+) -> Case {
+    let mut case = Case::lent([untouched("table", bytes)]);
+    let mut total = 0;
+    for &call in calls {
+        let (said, after) = made(call);
+        let (name, taken) = match call {
+            0 => ("slots_add", vec![total]),
+            _ => ("slots_remove", vec![total, call - 1]),
+        };
+        let table = after.table.iter().map(|&(_, byte)| byte.into()).collect();
+        case.call(name, &taken, coded(said.map(Some)), [("table", table)]);
+        asked(&mut case, &after);
+        total = after.total.into();
+    }
+    case.compare();
+    case
 }
 
 /// Calls with at most one slot deleted at a time.
@@ -180,37 +202,43 @@ fn single(bytes: usize, count: u64, draws: &mut Draws) -> Vec<u64> {
     calls
 }
 
-fn history(bytes: usize, calls: &[u64]) -> String {
+fn history(bytes: usize, calls: &[u64]) -> Case {
     let mut slots = Slots::lent(bytes);
-    history_line(bytes, calls, |call| {
+    history_of(bytes, calls, |call| {
         let said = called(call, &mut slots);
         let all = slots.table.iter().enumerate();
-        let table: Vec<_> = all
+        let table = all
             .map(|(slot, &byte)| (slots.is_active(slot as u32), byte))
             .collect();
-        (said, slots.len(), slots.is_empty(), table)
+        let after = After {
+            total: slots.total(),
+            len: slots.len(),
+            is_empty: slots.is_empty(),
+            table,
+        };
+        (said, after)
     })
 }
 
-fn states(draws: &mut Draws) -> Vec<String> {
-    let mut lines = Vec::new();
+fn states(draws: &mut Draws) -> Vec<Case> {
+    let mut cases = Vec::new();
     for key in keys(4, draws) {
         let any = draws.next() as u32;
         for location in [0, 1, (1 << 30) - 1, u32::MAX, any] {
             let state = location_state(key, location);
-            lines.push(format!("u {key:x} {location:x} {state:x}"));
+            cases.push(Case::of("location_state", &[key, location.into()], state));
         }
     }
-    lines
+    cases
 }
 
-pub fn slots() -> Vec<String> {
+pub fn slots() -> Vec<Case> {
     let mut draws = Draws(8);
-    let mut lines = lookups(&mut draws);
+    let mut cases = lookups(&mut draws);
     for bytes in (0..=24).cycle().take(300) {
         let count = 1 + draws.below(58);
-        lines.push(history(bytes, &single(bytes, count, &mut draws)));
+        cases.push(history(bytes, &single(bytes, count, &mut draws)));
     }
-    lines.extend(states(&mut draws));
-    lines
+    cases.extend(states(&mut draws));
+    cases
 }

@@ -1,51 +1,135 @@
-// Lines with one call on lent memory: a letter, how many words and places are lent, the record's words, the list's places, what
-// else the call takes, its answer, and the words and places after it.
-use crate::numbers::Numbers;
-use exports::{permutations, reservoirs};
+// The library's calls by their names, without the prefix that all have: what a line's call says, on the numbers of the line and on
+// what is lent. A family of names is one function; a call is one arm.
+use crate::memory::Memory;
+use crate::numbers::Given;
+use exports::{chooser, permutations, reservoirs, round, slots};
 
-// `S .. places .. out`: the sample in a list of so many places, all ones before it.
-fn sample_agrees(line: &mut Numbers<'_>, record: &[u32], list: &[u32]) -> bool {
-    let mut ones = [0xFFFF_FFFFu32; 24];
-    let out = &mut ones[..line.length(24)];
-    let said = reservoirs::perillajamb_reservoir_sample(record, list, out);
-    line.next() == said && line.has(record) && line.has(list) && line.has(out)
+fn numbers_say(name: &str, g: Given) -> Option<u64> {
+    Some(match name {
+        "splitmix64" => exports::perillajamb_splitmix64(g.a),
+        "layer_apply" => exports::perillajamb_layer_apply(g.low_a, g.b, g.low_c),
+        "seq_builder" => exports::perillajamb_seq_builder(g.a, g.b),
+        "prev" => exports::perillajamb_prev(g.a, g.b),
+        "into_prev" => exports::perillajamb_into_prev(g.a, g.b),
+        "next" => exports::perillajamb_next(g.a, g.b),
+        "falling_digest" => exports::perillajamb_falling_digest(g.a, g.b),
+        "rising_digest" => exports::perillajamb_rising_digest(g.a, g.b),
+        "location_state" => slots::perillajamb_location_state(g.a, g.low_b),
+        _ => return None,
+    })
 }
 
-// What the call says whose letter the line has; no letter but these is one.
-fn called(letter: u8, line: &mut Numbers<'_>, record: &mut [u32], list: &mut [u32]) -> Option<u64> {
-    match letter {
-        // `N .. n key ..`
-        b'N' => {
-            let n = line.word();
-            Some(permutations::perillajamb_order_new(n, line.next(), record))
-        }
-        b'X' => Some(permutations::perillajamb_order_next(record)),
-        // `R .. k n key ..`
-        b'R' => {
-            let k = line.word();
-            let n = line.word();
-            let key = line.next();
-            Some(reservoirs::perillajamb_reservoir_new(k, n, key, list, record))
-        }
-        b'A' => Some(reservoirs::perillajamb_reservoir_next(record, list)),
-        b'G' => Some(reservoirs::perillajamb_reservoir_grow_layer(record, list)),
-        b'F' => Some(reservoirs::perillajamb_reservoir_fits(record, list)),
-        _ => None,
-    }
+fn order_says(name: &str, g: Given, words: &mut [u32]) -> Option<u64> {
+    Some(match name {
+        "order_new" => permutations::perillajamb_order_new(g.low_a, g.b, words),
+        "order_next" => permutations::perillajamb_order_next(words),
+        "order_digest" => permutations::perillajamb_order_digest(g.low_a, g.b, g.low_c),
+        _ => return None,
+    })
 }
 
-pub(crate) fn agrees(letter: u8, mut line: Numbers<'_>) -> bool {
-    let mut words = [0u32; 24];
-    let mut places = [0u32; 24];
-    let record = &mut words[..line.length(24)];
-    let list = &mut places[..line.length(24)];
-    line.read(record);
-    line.read(list);
-    if letter == b'S' {
-        return sample_agrees(&mut line, record, list);
-    }
-    match called(letter, &mut line, record, list) {
-        Some(said) => line.next() == said && line.has(record) && line.has(list),
-        None => false,
+fn reservoir_says(
+    name: &str,
+    g: Given,
+    words: &mut [u32],
+    list: &mut [u32],
+    out: &mut [u32],
+) -> Option<u64> {
+    Some(match name {
+        "reservoir_new" => {
+            reservoirs::perillajamb_reservoir_new(g.low_a, g.low_b, g.c, list, words)
+        }
+        "reservoir_next" => reservoirs::perillajamb_reservoir_next(words, list),
+        "reservoir_grow_layer" => reservoirs::perillajamb_reservoir_grow_layer(words, list),
+        "reservoir_sample" => reservoirs::perillajamb_reservoir_sample(words, list, out),
+        "reservoir_fits" => reservoirs::perillajamb_reservoir_fits(words, list),
+        _ => return None,
+    })
+}
+
+fn chooser_says(name: &str, g: Given, words: &mut [u64], list: &mut [u64]) -> Option<u64> {
+    Some(match name {
+        "chooser_new" => chooser::perillajamb_chooser_new(g.a, g.b, words),
+        "chooser_new_with_k" => {
+            chooser::perillajamb_chooser_new_with_k(g.a, g.b, g.c, list, words)
+        }
+        "chooser_grow_k" => chooser::perillajamb_chooser_grow_k(words, list),
+        "chooser_next" => chooser::perillajamb_chooser_next(words, list),
+        "chooser_shrink_n" => chooser::perillajamb_chooser_shrink_n(words, list),
+        "chooser_fits" => chooser::perillajamb_chooser_fits(words, list),
+        _ => return None,
+    })
+}
+
+fn slots_say(name: &str, g: Given, table: &mut [u8], scratch: &mut [u64]) -> Option<u64> {
+    Some(match name {
+        "slots_add" => slots::perillajamb_slots_add(g.low_a, table),
+        "slots_remove" => slots::perillajamb_slots_remove(g.low_a, table, g.low_b),
+        "slots_len" => slots::perillajamb_slots_len(g.low_a, table),
+        "slots_is_empty" => slots::perillajamb_slots_is_empty(g.low_a, table),
+        "slots_is_active" => slots::perillajamb_slots_is_active(g.low_a, table, g.low_b),
+        "slots_fits" => slots::perillajamb_slots_fits(g.low_a, table),
+        "slots_get" => slots::perillajamb_slots_get(g.low_a, table, g.b, scratch),
+        "first_active" => slots::perillajamb_first_active(g.low_a, table, g.b, scratch),
+        _ => return None,
+    })
+}
+
+fn round_says(
+    name: &str,
+    g: Given,
+    words: &mut [u32],
+    list: &mut [u32],
+    table: &mut [u8],
+) -> Option<u64> {
+    Some(match name {
+        "round_open" => round::perillajamb_round_open(g.a, g.low_b, g.low_c, list, words),
+        "round_admit" => round::perillajamb_round_admit(words, list, table),
+        "round_join" => round::perillajamb_round_join(words, list, table),
+        "round_withdraw" => round::perillajamb_round_withdraw(words, list, table, g.low_a),
+        "round_fits" => round::perillajamb_round_fits(words, list, table),
+        _ => return None,
+    })
+}
+
+fn plan_says(name: &str, g: Given, m: &mut Memory) -> Option<u64> {
+    Some(match name {
+        "round_plan" => round::perillajamb_round_plan(
+            &m.words,
+            &m.list,
+            &m.table,
+            &mut m.locations,
+            &mut m.terminals,
+            &mut m.scratch,
+        ),
+        "round_replay" => round::perillajamb_round_replay(
+            g.a,
+            g.low_b,
+            g.low_c,
+            &m.wide_list,
+            &mut m.list,
+            &mut m.table,
+            &mut m.answers,
+            &mut m.locations,
+            &mut m.terminals,
+            &mut m.scratch,
+        ),
+        _ => return None,
+    })
+}
+
+// What the call of that name says; none where no call has it.
+pub(crate) fn said(name: &str, g: Given, m: &mut Memory) -> Option<u64> {
+    let (family, _) = name.split_once('_').unwrap_or(("", name));
+    match family {
+        "order" => order_says(name, g, &mut m.words),
+        "reservoir" => reservoir_says(name, g, &mut m.words, &mut m.list, &mut m.locations),
+        "chooser" => chooser_says(name, g, &mut m.wide_words, &mut m.wide_list),
+        "slots" | "first" => slots_say(name, g, &mut m.table, &mut m.scratch),
+        "round" => match round_says(name, g, &mut m.words, &mut m.list, &mut m.table) {
+            None => plan_says(name, g, m),
+            said => said,
+        },
+        _ => numbers_say(name, g),
     }
 }

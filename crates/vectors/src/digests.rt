@@ -1,4 +1,4 @@
-// Many answers as one number: a state fed with all of them.
+// Many numbers as one: a state fed with all of them.
 use crate::numbers::Word;
 
 #[derive(Drop)]

@@ -1,27 +1,21 @@
-// Replays the stored answers of the original through the proved library, and says how many agree.
+// Replays the stored answers of the original through the proved library, and says how many agree. A file that cannot be read ends it.
 #![tactic(auto)]
 
 mod calls;
-mod chooser_calls;
-mod choosings;
 mod digests;
-mod histories;
-mod lines;
+mod memory;
 mod numbers;
-mod round_histories;
-mod round_replays;
-mod slot_calls;
-mod slot_histories;
-mod slot_lookups;
+mod replays;
 mod tally;
 
+use replays::Replay;
 use std::alloc::Global;
 use std::rt::Files;
 use std::{fs, io};
 use tally::Tally;
 
-// The files of answers, each NAME.txt.
-const NAMES: [&str; 13] = [
+// The files of answers, each NAME.txt. Those of the last are wrong, and a replay must say so of each.
+const NAMES: [&str; 14] = [
     "mix",
     "layers",
     "hashes",
@@ -35,29 +29,33 @@ const NAMES: [&str; 13] = [
     "handmade_choosers",
     "handmade_slots",
     "rounds",
+    "wrong",
 ];
 
-// A line that begins with # says how the answers were made.
-fn replayed(rt: &(impl Files + AllocGlobal), name: &str) -> io::Result<Tally> {
+fn read(rt: &(impl Files + AllocGlobal), name: &str) -> io::Result<String> {
     let path = format!(in rt.alloc(); "{name}.txt")?;
-    let text = fs::read_to_string(rt, &path)?;
+    fs::read_to_string(rt, &path)
+}
+
+fn replayed(alloc: Global, text: &str) -> Tally {
+    let mut replay = Replay::new(alloc);
     let mut tally = Tally::new();
-    for line in text.as_str().lines() {
-        if line.starts_with('#') {
-            tally.pass();
-        } else {
-            tally.judge(lines::agrees(rt.alloc(), line)?);
-        }
+    for line in text.lines() {
+        tally.take(replay.line(line));
     }
-    Ok(tally)
+    tally.take(replay.end());
+    tally
+}
+
+fn report(rt: &(impl Files + Print + AllocGlobal), name: &str) -> io::Result<()> {
+    let text = read(rt, name)?;
+    let tally = replayed(rt.alloc(), text.as_str());
+    println!(rt; "{name}: {tally}")
 }
 
 fn main(rt: HostRuntime) -> io::Result<()> {
-    for name in NAMES {
-        match replayed(&rt, name) {
-            Ok(tally) => println!(rt; "{name}: {tally}")?,
-            Err(_) => println!(rt; "{name}: cannot be read")?,
-        }
+    for name in NAMES.iter() {
+        report(&rt, name)?;
     }
     Ok(())
 }

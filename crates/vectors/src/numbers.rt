@@ -25,50 +25,87 @@ impl Word for u64 {
     }
 }
 
-// What is left of a line: numbers in hexadecimal, parted by single spaces.
-#[derive(Drop)]
+// The numbers of a call, no call having more than three, and the low 32 bits of each.
+#[derive(Clone, Copy)]
+pub struct Given {
+    pub a: u64,
+    pub b: u64,
+    pub c: u64,
+    pub low_a: u32,
+    pub low_b: u32,
+    pub low_c: u32,
+}
+
+// What is left of a line: numbers in hexadecimal, parted by single spaces, and what its last number is raised by.
+#[derive(Clone, Copy)]
 pub struct Numbers<'a> {
     rest: &'a str,
+    step: u64,
 }
 
 impl<'a> Numbers<'a> {
-    pub(crate) fn new(rest: &'a str) -> Self {
-        Numbers { rest }
+    pub(crate) fn new(rest: &'a str, step: u64) -> Self {
+        Numbers { rest, step }
     }
 
-    // The next number; 0 where none is left, which the comparison with the answer then finds out.
+    // The next number; all ones where none is left.
     pub(crate) fn next(&mut self) -> u64 {
-        let (number, rest) = match self.rest.split_once(' ') {
-            Some(parts) => parts,
-            None => (self.rest, ""),
+        let (number, rest, step) = match self.rest.split_once(' ') {
+            Some((number, rest)) => (number, rest, 0),
+            None => (self.rest, "", self.step),
         };
         self.rest = rest;
-        u64::from_str_radix(number, 16).unwrap_or(0)
-    }
-
-    pub(crate) fn word<T: Word>(&mut self) -> T {
-        T::of(self.next())
-    }
-
-    // How much memory a line lends.
-    pub(crate) fn length(&mut self, most: u16) -> usize
-        ensures { result ≤ most }
-    {
-        self.next().min(u64::from(most)) as usize
-    }
-
-    pub(crate) fn read<T: Word>(&mut self, memory: &mut [T]) {
-        for place in memory.iter_mut() {
-            *place = self.word();
+        match u64::from_str_radix(number, 16) {
+            Ok(number) => number.saturating_add(step),
+            Err(_) => u64::MAX,
         }
     }
 
-    // Whether these are the next numbers.
-    pub(crate) fn has<T: Word>(&mut self, memory: &[T]) -> bool {
-        for word in memory {
-            if (*word).into() != self.next() {
+    // The numbers of a call.
+    pub(crate) fn given(&mut self) -> Given {
+        let a = self.next();
+        let b = self.next();
+        let c = self.next();
+        Given {
+            a,
+            b,
+            c,
+            low_a: u32::of(a),
+            low_b: u32::of(b),
+            low_c: u32::of(c),
+        }
+    }
+
+    // How many places a line lends, or how many times a call is made.
+    pub(crate) fn length(&mut self) -> u64
+        ensures { result ≤ 4096 }
+    {
+        self.next().min(4096)
+    }
+
+    // `places n1 n2 ..`: so many places with these numbers, and with all ones where the line has no more. Whether memory sufficed.
+    pub(crate) fn fill<T: Word>(&mut self, part: &mut Vec<T>) -> bool {
+        part.clear();
+        for _ in 0..self.length() {
+            if part.push(T::of(self.next())).is_err() {
                 return false;
             }
+        }
+        true
+    }
+
+    // `places bits1 bits2 ..`: so many places with the bits of these numbers, of each the lowest first. Whether memory sufficed.
+    pub(crate) fn fill_bits(&mut self, part: &mut Vec<u8>) -> bool {
+        part.clear();
+        let mut bits = 0;
+        for i in 0..self.length() {
+            if i % 64 == 0 {
+                bits = self.next();
+            }
+            if part.push((bits % 2) as u8).is_err() {
+                return false;
+            }
+            bits /= 2;
         }
         true
     }

@@ -1,4 +1,7 @@
 // What a replay found so far.
+ghost use Rattle.std.specs.Prelude.{◌≡◌};
+ghost use Rattle.vectors.specs.Tallies.{judged, taken};
+
 use std::fmt;
 
 // The number of the line that is being read, how many answers were compared, how many differ, and the line of the first
@@ -21,19 +24,25 @@ impl Tally {
         }
     }
 
-    // A line with no answer.
-    pub(crate) fn pass(&mut self) {
-        self.line = self.line.saturating_add(1);
-    }
-
     // A line with which the library agrees, or not.
-    pub(crate) fn judge(&mut self, agrees: bool) {
+    fn judge(&mut self, agrees: bool)
+        ensures { self.new ≡ judged agrees self.old }
+    {
         self.compared = self.compared.saturating_add(1);
         if !agrees {
             self.differ = self.differ.saturating_add(1);
             self.first = self.first.or(Some(self.line));
         }
-        self.pass();
+    }
+
+    // A line, and whether the library agrees with it, if it has an answer.
+    pub(crate) fn take(&mut self, agrees: Option<bool>)
+        ensures { self.new ≡ taken agrees self.old }
+    {
+        if let Some(agrees) = agrees {
+            self.judge(agrees);
+        }
+        self.line = self.line.saturating_add(1);
     }
 }
 
