@@ -6,7 +6,7 @@ use oracle::digest;
 /// How the lines of every file read, to stand at its head.
 pub const HOW: &str = "\
 NAME n1 n2 .. = ANSWER DIGEST: a call, by its name without the library's prefix, its numbers, what it answers, and a digest. Or
-times*NAME ..: the call so many times, its last number one higher each time; ANSWER is the last one's. A call's line without an
+times*NAME ..: the call so many times, its first number one higher each time; ANSWER is the last one's. A call's line without an
 answer only goes into the next digest. PART places n1 n2 ..: lends a part of the memory anew, of so many places with these numbers,
 and with all ones where there are no more: words, list, wide_words, wide_list (for a replay its calls), table (or table_bits, 64
 places to a number, the lowest bit first), answers, locations (of a sample too), terminals, scratch. An empty line: nothing is lent
@@ -85,11 +85,11 @@ struct Call {
 }
 
 impl Call {
-    /// Whether it is the next of so many calls that begin with another: its last number one higher each time.
+    /// Whether it is the next of so many calls that begin with another: its first number one higher each time.
     fn goes_on(&self, first: &Call, times: u64) -> bool {
         let mut next = first.taken.clone();
-        if let Some(last) = next.last_mut() {
-            *last += times;
+        if let Some(raised) = next.first_mut() {
+            *raised += times;
         }
         self.name == first.name && self.taken == next
     }

@@ -51,7 +51,7 @@ impl History {
             None => ("chooser_new", vec![state, n], done(lent.make(state, n))),
             Some(k) => {
                 let said = lent.make_with_k(state, n, k);
-                ("chooser_new_with_k", vec![state, n, k], done(said))
+                ("chooser_new_with_k", vec![state, k, n], done(said))
             }
         }
     }

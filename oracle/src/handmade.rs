@@ -72,7 +72,7 @@ pub fn changed<M: Lent>(
     let mut case = Case::lent(before.parts());
     case.call(
         name,
-        &[&before.taken(), taken].concat(),
+        &[taken, &before.taken()].concat(),
         answer,
         after.parts(),
     );

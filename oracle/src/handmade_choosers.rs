@@ -63,7 +63,7 @@ fn with_k(n: u64, k: u64, list: &[u64]) -> Case {
     changed(
         "chooser_new_with_k",
         &before,
-        &[0, n, k],
+        &[0, k, n],
         0,
         &chooser(n, k, list),
     )
@@ -74,7 +74,7 @@ fn with_k_refused(n: u64, k: u64, words: usize, places: usize, c: u32) -> Case {
     refused(
         "chooser_new_with_k",
         &Memory::untouched(words, places),
-        &[0, n, k],
+        &[0, k, n],
         c,
     )
 }

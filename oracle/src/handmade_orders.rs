@@ -37,7 +37,7 @@ fn new_orders() -> Vec<Case> {
     let key = 0x0123_4567_89ab_cdef;
     let mut cases = Vec::new();
     for n in [0, 1, 5, LIMIT] {
-        let taken = [n.into(), key];
+        let taken = [key, n.into()];
         let mut made = order(n, &[]);
         made.words[..2].copy_from_slice(&[0x89ab_cdef, 0x0123_4567]);
         for words in [18, 20] {
@@ -55,7 +55,7 @@ fn new_orders() -> Vec<Case> {
         }
     }
     for n in [LIMIT + 1, 1 << 31, u32::MAX] {
-        let taken = [n.into(), key];
+        let taken = [key, n.into()];
         cases.push(refused("order_new", &Memory::untouched(18, 0), &taken, 1));
     }
     cases

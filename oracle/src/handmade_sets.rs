@@ -30,7 +30,7 @@ fn reservoir(record: [u32; 4], list: &[u32]) -> Memory {
 fn new_reservoir(record: [u32; 4], list: &[u32]) -> Case {
     let [k, n, ..] = record;
     let before = Memory::untouched(6, list.len());
-    let taken = [k.into(), n.into(), 0];
+    let taken = [0, k.into(), n.into()];
     changed(
         "reservoir_new",
         &before,
@@ -43,7 +43,7 @@ fn new_reservoir(record: [u32; 4], list: &[u32]) -> Case {
 /// One that is refused with so many words and places lent.
 fn new_refused(k: u32, n: u32, words: usize, places: usize, c: u32) -> Case {
     let lent = Memory::untouched(words, places);
-    refused("reservoir_new", &lent, &[k.into(), n.into(), 0], c)
+    refused("reservoir_new", &lent, &[0, k.into(), n.into()], c)
 }
 
 fn new_reservoirs() -> Vec<Case> {

@@ -78,7 +78,7 @@ fn inputs(size: u64, draws: &mut Draws) -> Vec<u64> {
 }
 
 fn layer_case(layer: u32, key: u64, x: u64, said: u64) -> Case {
-    Case::of("layer_apply", &[layer.into(), key, x], said)
+    Case::of("layer_apply", &[key, layer.into(), x], said)
 }
 
 fn layers() -> Vec<Case> {
@@ -97,7 +97,7 @@ fn layers() -> Vec<Case> {
 
 /// Refusal 12 of a layer, by document 01, since the original tests neither the layer nor the input.
 fn layer_refusals() -> Vec<Case> {
-    let refused = (1u64 << 32) + 12;
+    let refused = (1u64 << 63) + 12;
     let mut cases = Vec::new();
     for key in KEYS {
         for layer in [15, 16, 31, 1 << 31, u32::MAX] {

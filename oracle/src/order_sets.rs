@@ -11,7 +11,7 @@ const LIMIT: u32 = 1 << 30;
 /// The numbers of `count` calls.
 fn digested(n: u32, key: u64, count: u32) -> Case {
     let digest = order_digest(n, key, count);
-    Case::of("order_digest", &[n.into(), key, count.into()], digest)
+    Case::of("order_digest", &[key, n.into(), count.into()], digest)
 }
 
 /// `new` and each of `count` calls.
@@ -19,7 +19,7 @@ fn walked(n: u32, key: u64, count: u32) -> Case {
     let mut order = Order::new(n, key);
     let mut case = Case::lent([untouched("words", 18)]);
     let left = |order: &Order| [("words", numbers(&order.words()))];
-    case.call("order_new", &[n.into(), key], 0, left(&order));
+    case.call("order_new", &[key, n.into()], 0, left(&order));
     for _ in 0..count {
         let said = order.next().map_or(NONE, u64::from);
         case.call("order_next", &[], said, left(&order));
@@ -67,7 +67,7 @@ pub fn refusals() -> Vec<Case> {
     let refused = coded(Err(1));
     let mut cases = Vec::new();
     for n in [LIMIT + 1, 1 << 31, u32::MAX] {
-        cases.extend(KEYS.map(|key| Case::of("order_digest", &[n.into(), key, 2], refused)));
+        cases.extend(KEYS.map(|key| Case::of("order_digest", &[key, n.into(), 2], refused)));
     }
     cases
 }

@@ -32,7 +32,7 @@ impl History {
     fn follow(&self, places: usize, mut each: impl FnMut(&'static str, &[u64], u64, &Reservoir)) {
         let mut lent = Reservoir::lent(places);
         let said = lent.open(self.k, self.n, self.key);
-        let taken = [self.k.into(), self.n.into(), self.key];
+        let taken = [self.key, self.k.into(), self.n.into()];
         each("reservoir_new", &taken, done(said), &lent);
         for _ in 0..self.admits {
             let [_, _, k, _, j_max, used] = lent.words;

@@ -66,7 +66,7 @@ impl Lookup {
 pub fn looked_up(total: u64, table: Part, state: u64, places: usize, got: u64, first: u64) -> Case {
     let mut case = Case::lent([table, untouched("scratch", places)]);
     for (name, said) in [("slots_get", got), ("first_active", first)] {
-        case.call(name, &[total, state], said, []);
+        case.call(name, &[state, total], said, []);
         case.compare();
     }
     case
@@ -160,7 +160,7 @@ fn asked(case: &mut Case, after: &After) {
     case.call("slots_len", &[total], after.len.into(), []);
     case.call("slots_is_empty", &[total], after.is_empty.into(), []);
     for (slot, &(active, _)) in after.table.iter().enumerate() {
-        case.call("slots_is_active", &[total, slot as u64], active.into(), []);
+        case.call("slots_is_active", &[slot as u64, total], active.into(), []);
     }
 }
 
@@ -176,7 +176,7 @@ pub fn history_of(
         let (said, after) = made(call);
         let (name, taken) = match call {
             0 => ("slots_add", vec![total]),
-            _ => ("slots_remove", vec![total, call - 1]),
+            _ => ("slots_remove", vec![call - 1, total]),
         };
         let table = after.table.iter().map(|&(_, byte)| byte.into()).collect();
         case.call(name, &taken, coded(said.map(Some)), [("table", table)]);

@@ -7,7 +7,7 @@ use exports::{chooser, permutations, reservoirs, round, slots};
 fn numbers_say(name: &str, g: Given) -> Option<u64> {
     Some(match name {
         "splitmix64" => exports::perillajamb_splitmix64(g.a),
-        "layer_apply" => exports::perillajamb_layer_apply(g.low_a, g.b, g.low_c),
+        "layer_apply" => exports::perillajamb_layer_apply(g.a, g.low_b, g.low_c),
         "seq_builder" => exports::perillajamb_seq_builder(g.a, g.b),
         "prev" => exports::perillajamb_prev(g.a, g.b),
         "into_prev" => exports::perillajamb_into_prev(g.a, g.b),
@@ -21,9 +21,9 @@ fn numbers_say(name: &str, g: Given) -> Option<u64> {
 
 fn order_says(name: &str, g: Given, words: &mut [u32]) -> Option<u64> {
     Some(match name {
-        "order_new" => permutations::perillajamb_order_new(g.low_a, g.b, words),
+        "order_new" => permutations::perillajamb_order_new(g.a, g.low_b, words),
         "order_next" => permutations::perillajamb_order_next(words),
-        "order_digest" => permutations::perillajamb_order_digest(g.low_a, g.b, g.low_c),
+        "order_digest" => permutations::perillajamb_order_digest(g.a, g.low_b, g.low_c),
         _ => return None,
     })
 }
@@ -37,7 +37,7 @@ fn reservoir_says(
 ) -> Option<u64> {
     Some(match name {
         "reservoir_new" => {
-            reservoirs::perillajamb_reservoir_new(g.low_a, g.low_b, g.c, list, words)
+            reservoirs::perillajamb_reservoir_new(g.a, g.low_b, g.low_c, words, list)
         }
         "reservoir_next" => reservoirs::perillajamb_reservoir_next(words, list),
         "reservoir_grow_layer" => reservoirs::perillajamb_reservoir_grow_layer(words, list),
@@ -51,7 +51,7 @@ fn chooser_says(name: &str, g: Given, words: &mut [u64], list: &mut [u64]) -> Op
     Some(match name {
         "chooser_new" => chooser::perillajamb_chooser_new(g.a, g.b, words),
         "chooser_new_with_k" => {
-            chooser::perillajamb_chooser_new_with_k(g.a, g.b, g.c, list, words)
+            chooser::perillajamb_chooser_new_with_k(g.a, g.b, g.c, words, list)
         }
         "chooser_grow_k" => chooser::perillajamb_chooser_grow_k(words, list),
         "chooser_next" => chooser::perillajamb_chooser_next(words, list),
@@ -64,13 +64,13 @@ fn chooser_says(name: &str, g: Given, words: &mut [u64], list: &mut [u64]) -> Op
 fn slots_say(name: &str, g: Given, table: &mut [u8], scratch: &mut [u64]) -> Option<u64> {
     Some(match name {
         "slots_add" => slots::perillajamb_slots_add(g.low_a, table),
-        "slots_remove" => slots::perillajamb_slots_remove(g.low_a, table, g.low_b),
+        "slots_remove" => slots::perillajamb_slots_remove(g.low_a, g.low_b, table),
         "slots_len" => slots::perillajamb_slots_len(g.low_a, table),
         "slots_is_empty" => slots::perillajamb_slots_is_empty(g.low_a, table),
-        "slots_is_active" => slots::perillajamb_slots_is_active(g.low_a, table, g.low_b),
+        "slots_is_active" => slots::perillajamb_slots_is_active(g.low_a, g.low_b, table),
         "slots_fits" => slots::perillajamb_slots_fits(g.low_a, table),
-        "slots_get" => slots::perillajamb_slots_get(g.low_a, table, g.b, scratch),
-        "first_active" => slots::perillajamb_first_active(g.low_a, table, g.b, scratch),
+        "slots_get" => slots::perillajamb_slots_get(g.a, g.low_b, table, scratch),
+        "first_active" => slots::perillajamb_first_active(g.a, g.low_b, table, scratch),
         _ => return None,
     })
 }
@@ -83,10 +83,10 @@ fn round_says(
     table: &mut [u8],
 ) -> Option<u64> {
     Some(match name {
-        "round_open" => round::perillajamb_round_open(g.a, g.low_b, g.low_c, list, words),
+        "round_open" => round::perillajamb_round_open(g.a, g.low_b, g.low_c, words, list),
         "round_admit" => round::perillajamb_round_admit(words, list, table),
         "round_join" => round::perillajamb_round_join(words, list, table),
-        "round_withdraw" => round::perillajamb_round_withdraw(words, list, table, g.low_a),
+        "round_withdraw" => round::perillajamb_round_withdraw(g.low_a, words, list, table),
         "round_fits" => round::perillajamb_round_fits(words, list, table),
         _ => return None,
     })

@@ -36,7 +36,7 @@ pub struct Given {
     pub low_c: u32,
 }
 
-// What is left of a line: numbers in hexadecimal, parted by single spaces, and what its last number is raised by.
+// What is left of a line: numbers in hexadecimal, parted by single spaces, and what its first number is raised by.
 #[derive(Clone, Copy)]
 pub struct Numbers<'a> {
     rest: &'a str,
@@ -50,11 +50,10 @@ impl<'a> Numbers<'a> {
 
     // The next number; all ones where none is left.
     pub(crate) fn next(&mut self) -> u64 {
-        let (number, rest, step) = match self.rest.split_once(' ') {
-            Some((number, rest)) => (number, rest, 0),
-            None => (self.rest, "", self.step),
-        };
+        let (number, rest) = self.rest.split_once(' ').unwrap_or((self.rest, ""));
+        let step = self.step;
         self.rest = rest;
+        self.step = 0;
         match u64::from_str_radix(number, 16) {
             Ok(number) => number.saturating_add(step),
             Err(_) => u64::MAX,

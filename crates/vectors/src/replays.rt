@@ -34,7 +34,7 @@ impl Replay {
         }
     }
 
-    // The call of that name, so many times, the line's last number one higher each time. Answers what it says last; none where no
+    // The call of that name, so many times, the line's first number one higher each time. Answers what it says last; none where no
     // call has the name.
     fn call(&mut self, times: u64, name: &str, numbers: &str) -> Option<u64> {
         let mut last = None;
