@@ -38,3 +38,7 @@ unfoldable pub slot_among : ℕ → List ℕ → Option ℕ
 slot_among s A = find (λ x. has x A) (Q s (one_above (largest A)))
 
 -- ---- the states that slots are looked up by
+
+-- "feeding a .. v makes it mix(state xor v)". Rounds, which see no promise of hashes, state by it what a location's state is.
+abbrev pub fed_state : ℕ → ℕ → ℕ
+fed_state state v = feed state v

@@ -1,6 +1,7 @@
 // The slot map of document 01: a slot count, and a byte a slot in a table that is lent to each call.
 ghost use Rattle.std.specs.Prelude.{◌≡◌, min, length, take, is_ok, IfOk, IfErr};
 ghost use Rattle.answers.specs.Answers.{after};
+ghost use Rattle.choosers.specs.Slots.{fed_state};
 ghost use Rattle.answers.specs.Refusals.{answer_of, optional};
 ghost use Rattle.answers.specs.declared.Refusal.TheVariants.{Misfit};
 ghost use Rattle.choosers.specs.SlotCalls.{slot_state, map_of, slot_limit, fitting, add_call, remove_call, len_call, is_empty_call, is_active_call, look_up, get_call, ScratchFree, ScratchAfter};
@@ -12,6 +13,13 @@ use answers::Refusal;
 #[derive(Clone, Copy, Debug, PartialEq, Eq)]
 pub struct ConsistentNodeMap {
     pub total: u32,
+}
+
+// A state after a number is fed to it, for whoever looks slots up by such states.
+pub fn fed_state(state: u64, v: u64) -> u64
+    ensures { result ≡ fed_state state v }
+{
+    hashes::seq_builder(state, v)
 }
 
 // The first active slot of the choice order of `count`, of as many of its numbers as the scratch has places: `get` without its

@@ -2,12 +2,11 @@
 -- Assumes nothing.
 use Rattle.std.specs.Prelude.{List, ℕ}
 use Rattle.std.proofs.Math.Option.{Option}
-use Rattle.hashes.specs.Hashes.{feed}
-use Rattle.choosers.specs.Slots.{slot_among}
+use Rattle.choosers.specs.Slots.{slot_among, fed_state}
 
 -- "for state mix(key xor location)"
 unfoldable pub state_of : ℕ → ℕ → ℕ
-state_of key location = feed key location
+state_of key location = fed_state key location
 
 -- "By definition a location's slot is the first active one in Q(1 + highest active slot)."
 unfoldable pub slot_of : ℕ → ℕ → List ℕ → Option ℕ

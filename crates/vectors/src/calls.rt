@@ -1,5 +1,5 @@
 // The library's calls by their names, without the prefix that all have: what a line's call says, on the numbers of the line and on
-// what is lent. A family of names is one function; a call is one arm.
+// what is lent. Calls that are lent the same parts stand in one function; a call is one arm.
 use crate::memory::Memory;
 use crate::numbers::Given;
 use exports::{chooser, permutations, reservoirs, round, slots};
@@ -14,28 +14,23 @@ fn numbers_say(name: &str, g: Given) -> Option<u64> {
         "next" => exports::perillajamb_next(g.a, g.b),
         "falling_digest" => exports::perillajamb_falling_digest(g.a, g.b),
         "rising_digest" => exports::perillajamb_rising_digest(g.a, g.b),
+        "order_digest" => permutations::perillajamb_order_digest(g.a, g.low_b, g.low_c),
         "location_state" => slots::perillajamb_location_state(g.a, g.low_b),
         _ => return None,
     })
 }
 
-fn order_says(name: &str, g: Given, words: &mut [u32]) -> Option<u64> {
-    Some(match name {
-        "order_new" => permutations::perillajamb_order_new(g.a, g.low_b, words),
-        "order_next" => permutations::perillajamb_order_next(words),
-        "order_digest" => permutations::perillajamb_order_digest(g.a, g.low_b, g.low_c),
-        _ => return None,
-    })
-}
-
-fn reservoir_says(
+fn records_say(
     name: &str,
     g: Given,
     words: &mut [u32],
     list: &mut [u32],
+    table: &mut [u8],
     out: &mut [u32],
 ) -> Option<u64> {
     Some(match name {
+        "order_new" => permutations::perillajamb_order_new(g.a, g.low_b, words),
+        "order_next" => permutations::perillajamb_order_next(words),
         "reservoir_new" => {
             reservoirs::perillajamb_reservoir_new(g.a, g.low_b, g.low_c, words, list)
         }
@@ -43,11 +38,16 @@ fn reservoir_says(
         "reservoir_grow_layer" => reservoirs::perillajamb_reservoir_grow_layer(words, list),
         "reservoir_sample" => reservoirs::perillajamb_reservoir_sample(words, list, out),
         "reservoir_fits" => reservoirs::perillajamb_reservoir_fits(words, list),
+        "round_open" => round::perillajamb_round_open(g.a, g.low_b, g.low_c, words, list),
+        "round_admit" => round::perillajamb_round_admit(words, list, table),
+        "round_join" => round::perillajamb_round_join(words, list, table),
+        "round_withdraw" => round::perillajamb_round_withdraw(g.low_a, words, list, table),
+        "round_fits" => round::perillajamb_round_fits(words, list, table),
         _ => return None,
     })
 }
 
-fn chooser_says(name: &str, g: Given, words: &mut [u64], list: &mut [u64]) -> Option<u64> {
+fn choosers_say(name: &str, g: Given, words: &mut [u64], list: &mut [u64]) -> Option<u64> {
     Some(match name {
         "chooser_new" => chooser::perillajamb_chooser_new(g.a, g.b, words),
         "chooser_new_with_k" => {
@@ -75,24 +75,7 @@ fn slots_say(name: &str, g: Given, table: &mut [u8], scratch: &mut [u64]) -> Opt
     })
 }
 
-fn round_says(
-    name: &str,
-    g: Given,
-    words: &mut [u32],
-    list: &mut [u32],
-    table: &mut [u8],
-) -> Option<u64> {
-    Some(match name {
-        "round_open" => round::perillajamb_round_open(g.a, g.low_b, g.low_c, words, list),
-        "round_admit" => round::perillajamb_round_admit(words, list, table),
-        "round_join" => round::perillajamb_round_join(words, list, table),
-        "round_withdraw" => round::perillajamb_round_withdraw(g.low_a, words, list, table),
-        "round_fits" => round::perillajamb_round_fits(words, list, table),
-        _ => return None,
-    })
-}
-
-fn plan_says(name: &str, g: Given, m: &mut Memory) -> Option<u64> {
+fn plans_say(name: &str, g: Given, m: &mut Memory) -> Option<u64> {
     Some(match name {
         "round_plan" => round::perillajamb_round_plan(
             &m.words,
@@ -120,16 +103,18 @@ fn plan_says(name: &str, g: Given, m: &mut Memory) -> Option<u64> {
 
 // What the call of that name says; none where no call has it.
 pub(crate) fn said(name: &str, g: Given, m: &mut Memory) -> Option<u64> {
-    let (family, _) = name.split_once('_').unwrap_or(("", name));
-    match family {
-        "order" => order_says(name, g, &mut m.words),
-        "reservoir" => reservoir_says(name, g, &mut m.words, &mut m.list, &mut m.locations),
-        "chooser" => chooser_says(name, g, &mut m.wide_words, &mut m.wide_list),
-        "slots" | "first" => slots_say(name, g, &mut m.table, &mut m.scratch),
-        "round" => match round_says(name, g, &mut m.words, &mut m.list, &mut m.table) {
-            None => plan_says(name, g, m),
-            said => said,
-        },
-        _ => numbers_say(name, g),
+    if let Some(said) = numbers_say(name, g) {
+        return Some(said);
     }
+    if let Some(said) = slots_say(name, g, &mut m.table, &mut m.scratch) {
+        return Some(said);
+    }
+    if let Some(said) = choosers_say(name, g, &mut m.wide_words, &mut m.wide_list) {
+        return Some(said);
+    }
+    let out = &mut m.locations;
+    if let Some(said) = records_say(name, g, &mut m.words, &mut m.list, &mut m.table, out) {
+        return Some(said);
+    }
+    plans_say(name, g, m)
 }

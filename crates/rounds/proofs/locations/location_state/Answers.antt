@@ -5,4 +5,4 @@ use Rattle.rounds.proofs.locations.location_state.Goals as goal
 
 pub returns : goal.returns
 unfolding state_of
-returns c = rw c.from.ensures at c.seq_builder.ensures
+returns c = rw c.from.ensures at c.fed_state.ensures
