@@ -46,7 +46,7 @@ length_zip [] vs = (omega arith, omega arith)
 length_zip (k ∷ ks) [] = (omega arith, omega arith)
 length_zip (k ∷ ks) (v ∷ vs) = let l = length_zip ks vs in (omega (arith, l), omega (arith, l))
 
-length_places_zip : (ks ls ts : List ℕ) → length (zip ks (zip ls ts)) ≤ length ls
+pub length_places_zip : (ks ls ts : List ℕ) → length (zip ks (zip ls ts)) ≤ length ls
 length_places_zip ks ls ts = omega (arith, length_zip ks (zip ls ts), length_zip ls ts)
 
 -- ---- how long the texts are
@@ -55,7 +55,7 @@ length_slot : (o : Option ℕ) → length (slot_text o) ≤ 11
 length_slot none = omega arith
 length_slot (some s) = length_tabbed s
 
-length_place : (i : ℕ) (s : Sheet) → length (place_line i s) ≤ 33
+pub length_place : (i : ℕ) (s : Sheet) → length (place_line i s) ≤ 33
 unfolding place_line
 length_place i s = simp length-append (omega (arith, length_decimal i, length_tabbed s.location, length_slot s.terminal))
 

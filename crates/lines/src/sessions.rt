@@ -32,7 +32,7 @@ pub struct Memory<'a> {
 
 // Where a session stands between two pieces: the round that an accepted open made, if there was one, and how many bytes are held of
 // a line that has not ended. The list that holds them is lent to each call. A caller may make one by hand, and the list is no part
-// of it, so that no more is held than there can be, and that the list has room, is tested by the calls, and asked for by the three
+// of it, so that no more is held than there can be, and that the list has room, is tested by the calls, and asked for by the two
 // functions that they use.
 #[derive(Clone, Copy, Debug, PartialEq, Eq)]
 pub struct Session {
