@@ -4,6 +4,7 @@ use Rattle.std.specs.Prelude.{Bool, ◌&&◌, List, ℕ, suc, ltb, eqb, get_or}
 use Rattle.std.proofs.Math.Option
 use Rattle.std.proofs.Math.Option.{Option, none, some}
 use Rattle.lists.specs.Lists.{keep, has, zero_to, largest, find, first_from}
+use Rattle.hashes.specs.Hashes.{feed}
 use Rattle.choosers.specs.Choosers.{Q}
 
 -- "a slot below the count is active where its byte is 1 .., and no other slot is .., whatever its byte"
