@@ -1,4 +1,4 @@
-// Replays the stored answers of the original through the proved library, and says how many agree. A file that cannot be read ends it.
+// Replays the stored answers of the original through the proved library, and says how many agree.
 #![tactic(auto)]
 
 mod calls;
@@ -48,7 +48,9 @@ fn replayed(alloc: Global, text: &str) -> Tally {
 }
 
 fn report(rt: &(impl Files + Print + AllocGlobal), name: &str) -> io::Result<()> {
-    let text = read(rt, name)?;
+    let Ok(text) = read(rt, name) else {
+        return println!(rt; "{name}: cannot be read");
+    };
     let tally = replayed(rt.alloc(), text.as_str());
     println!(rt; "{name}: {tally}")
 }
