@@ -5,6 +5,7 @@ ghost use Rattle.lines.specs.Replies.{text_of};
 ghost use Rattle.lines.specs.Sessions.{site, world, open_line, admit_line, join_line, withdraw_line, plan_line, respond};
 ghost use Rattle.lines.specs.Streams.{room_for};
 ghost use Rattle.lines.specs.InnerLines.{reply_of};
+ghost use Rattle.answers.specs.Answers.{after};
 
 use crate::commands::Command;
 use crate::texts::Accepted;
@@ -13,7 +14,6 @@ use answers::Refusal;
 use fields::texts::Text;
 use rounds::round;
 use rounds::round::Round;
-ghost use Rattle.answers.specs.Answers.{after};
 
 // ---- the calls: refusal 12 before an accepted open, and those of the round's
 
