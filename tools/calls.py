@@ -44,7 +44,7 @@ def calls_of(crate):
     found, to_c = [], exported()
     for module, text in files:
         text = bare(text, '//')
-        names, aliases = uses(text, 'ghost use')
+        names, aliases = uses(text, ' *ghost use')
         kind = ''
         for m in re.finditer(r'^impl (\w+)|^(\}) *$|^( *)(?:#\[unsafe\(no_mangle\)\]\s+)?pub (?:extern "C" )?fn (\w+)', text, re.M):
             if m.group(1):

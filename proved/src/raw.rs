@@ -15,6 +15,40 @@ extern "C" {
     fn perillajamb_rising_next(state: u64, low: u64) -> u64;
     fn perillajamb_falling_digest(state: u64, n: u64) -> u64;
     fn perillajamb_rising_digest(state: u64, n: u64) -> u64;
+    fn perillajamb_chooser_new(state: u64, n: u64, words: *mut u64, words_len: usize) -> u64;
+    fn perillajamb_chooser_new_with_k(
+        state: u64,
+        k: u64,
+        n: u64,
+        words: *mut u64,
+        words_len: usize,
+        list: *mut u64,
+        list_len: usize,
+    ) -> u64;
+    fn perillajamb_chooser_grow_k(
+        words: *mut u64,
+        words_len: usize,
+        list: *mut u64,
+        list_len: usize,
+    ) -> u64;
+    fn perillajamb_chooser_next(
+        words: *mut u64,
+        words_len: usize,
+        list: *mut u64,
+        list_len: usize,
+    ) -> u64;
+    fn perillajamb_chooser_shrink_n(
+        words: *mut u64,
+        words_len: usize,
+        list: *mut u64,
+        list_len: usize,
+    ) -> u64;
+    fn perillajamb_chooser_fits(
+        words: *const u64,
+        words_len: usize,
+        list: *const u64,
+        list_len: usize,
+    ) -> u64;
     fn perillajamb_order_new(key: u64, n: u32, ws: *mut u32, ws_len: usize) -> u64;
     fn perillajamb_order_next(ws: *mut u32, ws_len: usize) -> u64;
     fn perillajamb_order_digest(key: u64, n: u32, count: u32) -> u64;
@@ -53,68 +87,6 @@ extern "C" {
         list: *const u32,
         list_len: usize,
     ) -> u64;
-    fn perillajamb_chooser_new(state: u64, n: u64, words: *mut u64, words_len: usize) -> u64;
-    fn perillajamb_chooser_new_with_k(
-        state: u64,
-        k: u64,
-        n: u64,
-        words: *mut u64,
-        words_len: usize,
-        list: *mut u64,
-        list_len: usize,
-    ) -> u64;
-    fn perillajamb_chooser_grow_k(
-        words: *mut u64,
-        words_len: usize,
-        list: *mut u64,
-        list_len: usize,
-    ) -> u64;
-    fn perillajamb_chooser_next(
-        words: *mut u64,
-        words_len: usize,
-        list: *mut u64,
-        list_len: usize,
-    ) -> u64;
-    fn perillajamb_chooser_shrink_n(
-        words: *mut u64,
-        words_len: usize,
-        list: *mut u64,
-        list_len: usize,
-    ) -> u64;
-    fn perillajamb_chooser_fits(
-        words: *const u64,
-        words_len: usize,
-        list: *const u64,
-        list_len: usize,
-    ) -> u64;
-    fn perillajamb_slots_add(total: u32, table: *mut u8, table_len: usize) -> u64;
-    fn perillajamb_slots_remove(slot: u32, total: u32, table: *mut u8, table_len: usize) -> u64;
-    fn perillajamb_slots_len(total: u32, table: *const u8, table_len: usize) -> u64;
-    fn perillajamb_slots_is_empty(total: u32, table: *const u8, table_len: usize) -> u64;
-    fn perillajamb_slots_is_active(
-        slot: u32,
-        total: u32,
-        table: *const u8,
-        table_len: usize,
-    ) -> u64;
-    fn perillajamb_slots_fits(total: u32, table: *const u8, table_len: usize) -> u64;
-    fn perillajamb_slots_get(
-        state: u64,
-        total: u32,
-        table: *const u8,
-        table_len: usize,
-        scratch: *mut u64,
-        scratch_len: usize,
-    ) -> u64;
-    fn perillajamb_first_active(
-        state: u64,
-        total: u32,
-        table: *const u8,
-        table_len: usize,
-        scratch: *mut u64,
-        scratch_len: usize,
-    ) -> u64;
-    fn perillajamb_location_state(key: u64, location: u32) -> u64;
     fn perillajamb_round_open(
         key: u64,
         k: u32,
@@ -190,6 +162,34 @@ extern "C" {
         scratch: *mut u64,
         scratch_len: usize,
     ) -> u64;
+    fn perillajamb_slots_add(total: u32, table: *mut u8, table_len: usize) -> u64;
+    fn perillajamb_slots_remove(slot: u32, total: u32, table: *mut u8, table_len: usize) -> u64;
+    fn perillajamb_slots_len(total: u32, table: *const u8, table_len: usize) -> u64;
+    fn perillajamb_slots_is_empty(total: u32, table: *const u8, table_len: usize) -> u64;
+    fn perillajamb_slots_is_active(
+        slot: u32,
+        total: u32,
+        table: *const u8,
+        table_len: usize,
+    ) -> u64;
+    fn perillajamb_slots_fits(total: u32, table: *const u8, table_len: usize) -> u64;
+    fn perillajamb_slots_get(
+        state: u64,
+        total: u32,
+        table: *const u8,
+        table_len: usize,
+        scratch: *mut u64,
+        scratch_len: usize,
+    ) -> u64;
+    fn perillajamb_first_active(
+        state: u64,
+        total: u32,
+        table: *const u8,
+        table_len: usize,
+        scratch: *mut u64,
+        scratch_len: usize,
+    ) -> u64;
+    fn perillajamb_location_state(key: u64, location: u32) -> u64;
 }
 
 #[inline]
@@ -255,6 +255,67 @@ pub fn falling_digest(state: u64, n: u64) -> u64 {
 #[inline]
 pub fn rising_digest(state: u64, n: u64) -> u64 {
     unsafe { perillajamb_rising_digest(state, n) }
+}
+
+#[inline]
+pub fn chooser_new(state: u64, n: u64, words: &mut [u64]) -> u64 {
+    unsafe { perillajamb_chooser_new(state, n, words.as_mut_ptr(), words.len()) }
+}
+
+#[inline]
+pub fn chooser_new_with_k(state: u64, k: u64, n: u64, words: &mut [u64], list: &mut [u64]) -> u64 {
+    unsafe {
+        perillajamb_chooser_new_with_k(
+            state,
+            k,
+            n,
+            words.as_mut_ptr(),
+            words.len(),
+            list.as_mut_ptr(),
+            list.len(),
+        )
+    }
+}
+
+#[inline]
+pub fn chooser_grow_k(words: &mut [u64], list: &mut [u64]) -> u64 {
+    unsafe {
+        perillajamb_chooser_grow_k(
+            words.as_mut_ptr(),
+            words.len(),
+            list.as_mut_ptr(),
+            list.len(),
+        )
+    }
+}
+
+#[inline]
+pub fn chooser_next(words: &mut [u64], list: &mut [u64]) -> u64 {
+    unsafe {
+        perillajamb_chooser_next(
+            words.as_mut_ptr(),
+            words.len(),
+            list.as_mut_ptr(),
+            list.len(),
+        )
+    }
+}
+
+#[inline]
+pub fn chooser_shrink_n(words: &mut [u64], list: &mut [u64]) -> u64 {
+    unsafe {
+        perillajamb_chooser_shrink_n(
+            words.as_mut_ptr(),
+            words.len(),
+            list.as_mut_ptr(),
+            list.len(),
+        )
+    }
+}
+
+#[inline]
+pub fn chooser_fits(words: &[u64], list: &[u64]) -> u64 {
+    unsafe { perillajamb_chooser_fits(words.as_ptr(), words.len(), list.as_ptr(), list.len()) }
 }
 
 #[inline]
@@ -328,130 +389,6 @@ pub fn reservoir_sample(words: &[u32], list: &[u32], out: &mut [u32]) -> u64 {
 #[inline]
 pub fn reservoir_fits(words: &[u32], list: &[u32]) -> u64 {
     unsafe { perillajamb_reservoir_fits(words.as_ptr(), words.len(), list.as_ptr(), list.len()) }
-}
-
-#[inline]
-pub fn chooser_new(state: u64, n: u64, words: &mut [u64]) -> u64 {
-    unsafe { perillajamb_chooser_new(state, n, words.as_mut_ptr(), words.len()) }
-}
-
-#[inline]
-pub fn chooser_new_with_k(state: u64, k: u64, n: u64, words: &mut [u64], list: &mut [u64]) -> u64 {
-    unsafe {
-        perillajamb_chooser_new_with_k(
-            state,
-            k,
-            n,
-            words.as_mut_ptr(),
-            words.len(),
-            list.as_mut_ptr(),
-            list.len(),
-        )
-    }
-}
-
-#[inline]
-pub fn chooser_grow_k(words: &mut [u64], list: &mut [u64]) -> u64 {
-    unsafe {
-        perillajamb_chooser_grow_k(
-            words.as_mut_ptr(),
-            words.len(),
-            list.as_mut_ptr(),
-            list.len(),
-        )
-    }
-}
-
-#[inline]
-pub fn chooser_next(words: &mut [u64], list: &mut [u64]) -> u64 {
-    unsafe {
-        perillajamb_chooser_next(
-            words.as_mut_ptr(),
-            words.len(),
-            list.as_mut_ptr(),
-            list.len(),
-        )
-    }
-}
-
-#[inline]
-pub fn chooser_shrink_n(words: &mut [u64], list: &mut [u64]) -> u64 {
-    unsafe {
-        perillajamb_chooser_shrink_n(
-            words.as_mut_ptr(),
-            words.len(),
-            list.as_mut_ptr(),
-            list.len(),
-        )
-    }
-}
-
-#[inline]
-pub fn chooser_fits(words: &[u64], list: &[u64]) -> u64 {
-    unsafe { perillajamb_chooser_fits(words.as_ptr(), words.len(), list.as_ptr(), list.len()) }
-}
-
-#[inline]
-pub fn slots_add(total: u32, table: &mut [u8]) -> u64 {
-    unsafe { perillajamb_slots_add(total, table.as_mut_ptr(), table.len()) }
-}
-
-#[inline]
-pub fn slots_remove(slot: u32, total: u32, table: &mut [u8]) -> u64 {
-    unsafe { perillajamb_slots_remove(slot, total, table.as_mut_ptr(), table.len()) }
-}
-
-#[inline]
-pub fn slots_len(total: u32, table: &[u8]) -> u64 {
-    unsafe { perillajamb_slots_len(total, table.as_ptr(), table.len()) }
-}
-
-#[inline]
-pub fn slots_is_empty(total: u32, table: &[u8]) -> u64 {
-    unsafe { perillajamb_slots_is_empty(total, table.as_ptr(), table.len()) }
-}
-
-#[inline]
-pub fn slots_is_active(slot: u32, total: u32, table: &[u8]) -> u64 {
-    unsafe { perillajamb_slots_is_active(slot, total, table.as_ptr(), table.len()) }
-}
-
-#[inline]
-pub fn slots_fits(total: u32, table: &[u8]) -> u64 {
-    unsafe { perillajamb_slots_fits(total, table.as_ptr(), table.len()) }
-}
-
-#[inline]
-pub fn slots_get(state: u64, total: u32, table: &[u8], scratch: &mut [u64]) -> u64 {
-    unsafe {
-        perillajamb_slots_get(
-            state,
-            total,
-            table.as_ptr(),
-            table.len(),
-            scratch.as_mut_ptr(),
-            scratch.len(),
-        )
-    }
-}
-
-#[inline]
-pub fn first_active(state: u64, total: u32, table: &[u8], scratch: &mut [u64]) -> u64 {
-    unsafe {
-        perillajamb_first_active(
-            state,
-            total,
-            table.as_ptr(),
-            table.len(),
-            scratch.as_mut_ptr(),
-            scratch.len(),
-        )
-    }
-}
-
-#[inline]
-pub fn location_state(key: u64, location: u32) -> u64 {
-    unsafe { perillajamb_location_state(key, location) }
 }
 
 #[inline]
@@ -588,4 +525,67 @@ pub fn round_replay(
             scratch.len(),
         )
     }
+}
+
+#[inline]
+pub fn slots_add(total: u32, table: &mut [u8]) -> u64 {
+    unsafe { perillajamb_slots_add(total, table.as_mut_ptr(), table.len()) }
+}
+
+#[inline]
+pub fn slots_remove(slot: u32, total: u32, table: &mut [u8]) -> u64 {
+    unsafe { perillajamb_slots_remove(slot, total, table.as_mut_ptr(), table.len()) }
+}
+
+#[inline]
+pub fn slots_len(total: u32, table: &[u8]) -> u64 {
+    unsafe { perillajamb_slots_len(total, table.as_ptr(), table.len()) }
+}
+
+#[inline]
+pub fn slots_is_empty(total: u32, table: &[u8]) -> u64 {
+    unsafe { perillajamb_slots_is_empty(total, table.as_ptr(), table.len()) }
+}
+
+#[inline]
+pub fn slots_is_active(slot: u32, total: u32, table: &[u8]) -> u64 {
+    unsafe { perillajamb_slots_is_active(slot, total, table.as_ptr(), table.len()) }
+}
+
+#[inline]
+pub fn slots_fits(total: u32, table: &[u8]) -> u64 {
+    unsafe { perillajamb_slots_fits(total, table.as_ptr(), table.len()) }
+}
+
+#[inline]
+pub fn slots_get(state: u64, total: u32, table: &[u8], scratch: &mut [u64]) -> u64 {
+    unsafe {
+        perillajamb_slots_get(
+            state,
+            total,
+            table.as_ptr(),
+            table.len(),
+            scratch.as_mut_ptr(),
+            scratch.len(),
+        )
+    }
+}
+
+#[inline]
+pub fn first_active(state: u64, total: u32, table: &[u8], scratch: &mut [u64]) -> u64 {
+    unsafe {
+        perillajamb_first_active(
+            state,
+            total,
+            table.as_ptr(),
+            table.len(),
+            scratch.as_mut_ptr(),
+            scratch.len(),
+        )
+    }
+}
+
+#[inline]
+pub fn location_state(key: u64, location: u32) -> u64 {
+    unsafe { perillajamb_location_state(key, location) }
 }

@@ -1,4 +1,4 @@
--- The twelve refusals of document 01, "By whom a refusal comes", and what a call that may be refused says.
+-- The twelve refusals of document 01, "By whom a refusal comes", and what a call that may be refused answers.
 -- Assumes nothing.
 use Rattle.std.specs.Prelude.{ℕ, Option, Some, None, Result, Ok, Err}
 use Rattle.std.proofs.Math.Option as maybe
@@ -33,7 +33,7 @@ number NoneActive = 11
 -- "a record against its memory .."; "a program line of no known form"
 number Misfit = 12
 
--- what a call says: its refusal's number, or its answer
+-- what a call answers: its refusal's number, or its result
 abbrev pub answer_of : {A : Type 0} → Result A Refusal → Answer A
 answer_of (Ok x) = result x
 answer_of (Err why) = refusal (number why)
@@ -43,6 +43,6 @@ abbrev pub optional : {A : Type 0} → Option A → maybe.Option A
 optional (Some x) = maybe.some x
 optional None = maybe.none
 
--- what a call says that may find nothing
+-- what a call answers that may find nothing
 abbrev pub answer_of_option : {A : Type 0} → Result (Option A) Refusal → Answer (maybe.Option A)
 answer_of_option r = map_answer optional (answer_of r)

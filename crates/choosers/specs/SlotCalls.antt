@@ -58,7 +58,7 @@ remove_call m t x =
 
 -- ---- the slot queries
 
--- 12, or the answer
+-- 12, or the result
 unfoldable pub queried : {A : Type 0} → ConsistentNodeMap → List ℕ → A → Answer A
 queried m t a = cond (fitting m t) (result a) (refusal 12)
 

@@ -23,7 +23,7 @@ use Rattle.choosers.specs.ChooserCalls as ChooserCalls
 use Rattle.choosers.specs.SlotCalls as SlotCalls
 use Rattle.choosers.specs.RefusedBy as lists
 use Rattle.choosers.proofs.RefusedLaws as choosers
-use Rattle.exports.specs.Coded.{layer_xors, truth, or_none, coded_number, falling_digest, rising_digest}
+use Rattle.exports.specs.Coded.{layer_xors, truth, found_number, coded_number, falling_digest, rising_digest}
 use Rattle.exports.specs.Crossings.{words_list}
 use Rattle.answers.specs.Making.{short_refusal}
 use Rattle.exports.specs.Orders as Order
@@ -58,7 +58,7 @@ order_digest_refuses key n count = by_cond (Among order_digest_refusals) (ltb (2
 -- ---- orders
 
 module _ (ws : List ℕ) where
-  pub order_new_refuses : (key n : ℕ) → let t = said_else (short_refusal (2 ^ 30) 0 0 n) 18 ws (OrderCalls.new_call n key) in
+  pub order_new_refuses : (key n : ℕ) → let t = said_else (short_refusal (2 ^ 30) 0 0 n) Order.order_layout.count ws (OrderCalls.new_call n key) in
       let a = Order.new_order_crossed key n ws in Crosses (λ o. 0) order_new_refusals t a.answer ws a.left
   unfolding Order.new_order_crossed has same every
   order_new_refuses key n =
@@ -66,67 +66,67 @@ module _ (ws : List ℕ) where
       (short_among (2 ^ 30) n order_new_refusals refl refl)
       (alone order_refusals order_new_refusals refl (OrderCalls.new_call n key) (orders.order_refuses n key))
 
-  pub order_next_refuses : let t = said_by 18 ws (OrderCalls.next_call (Order.order_as ws)).answer in
-      let a = Order.next_order_crossed ws in Crosses or_none order_next_refusals t a.answer ws a.left
+  pub order_next_refuses : let t = said_by Order.order_layout.count ws (OrderCalls.next_call (Order.order_as ws)).answer in
+      let a = Order.next_order_crossed ws in Crosses found_number order_next_refusals t a.answer ws a.left
   unfolding Order.next_order_crossed
   order_next_refuses =
-      called_refuses Order.order_lending or_none _ ws (Order.order_as ws) OrderCalls.next_call (orders.order_next_refuses (Order.order_as ws))
+      called_refuses Order.order_lending found_number _ ws (Order.order_as ws) OrderCalls.next_call (orders.order_next_refuses (Order.order_as ws))
 
 -- ---- reservoirs and choosers
 
 module _ (ws l : List ℕ) where
-  pub reservoir_new_refuses : (key k n : ℕ) → let t = said_else (short_refusal (2 ^ 30) 1 k n) 6 ws (ReservoirCalls.open_call k n key l).answer in
+  pub reservoir_new_refuses : (key k n : ℕ) → let t = said_else (short_refusal (2 ^ 30) 1 k n) Reservoir.reservoir_layout.count ws (ReservoirCalls.open_call k n key l).answer in
       let a = Reservoir.new_crossed key k n ws l in Crosses (λ r. 0) open_refusals t a.answer (words_list ws l) a.left
   unfolding Reservoir.new_crossed
   reservoir_new_refuses key k n =
       made_refuses Reservoir.reservoir_layout ws _ words_list l open_refusals (ReservoirCalls.open_call k n key l) (orders.short_refuses k n)
       (orders.open_refuses k n key l)
 
-  pub reservoir_next_refuses : let t = said_by 6 ws (ReservoirCalls.admit_call (Reservoir.record_of ws) l).answer in
+  pub reservoir_next_refuses : let t = said_by Reservoir.reservoir_layout.count ws (ReservoirCalls.admit_call (Reservoir.record_of ws) l).answer in
       let a = Reservoir.next_crossed ws l in Crosses Reservoir.exchange_number reservoir_next_refusals t a.answer (words_list ws l) a.left
   unfolding Reservoir.next_crossed
   reservoir_next_refuses = called_refuses Reservoir.reservoir_lending Reservoir.exchange_number admit_refusals ws (ReservoirCalls.reservoir_state (Reservoir.record_of ws) l)
       (λ s. ReservoirCalls.admit_call s.reservoir s.list) (orders.admit_refuses (Reservoir.record_of ws) l)
 
-  pub reservoir_grow_layer_refuses : let t = said_by 6 ws (ReservoirCalls.grow_layer_call (Reservoir.record_of ws) l).answer in
+  pub reservoir_grow_layer_refuses : let t = said_by Reservoir.reservoir_layout.count ws (ReservoirCalls.grow_layer_call (Reservoir.record_of ws) l).answer in
       let a = Reservoir.grow_crossed ws l in Crosses (λ u. 0) reservoir_grow_layer_refusals t a.answer (words_list ws l) a.left
   unfolding Reservoir.grow_crossed
   reservoir_grow_layer_refuses = called_refuses Reservoir.reservoir_lending (λ u. 0) grow_layer_refusals ws (ReservoirCalls.reservoir_state (Reservoir.record_of ws) l)
       (λ s. ReservoirCalls.grow_layer_call s.reservoir s.list) (orders.grow_layer_refuses (Reservoir.record_of ws) l)
 
-  pub reservoir_sample_refuses : (out : List ℕ) → let t = said_by 6 ws (ReservoirCalls.sample_call (Reservoir.record_of ws) l out).answer in
+  pub reservoir_sample_refuses : (out : List ℕ) → let t = said_by Reservoir.reservoir_layout.count ws (ReservoirCalls.sample_call (Reservoir.record_of ws) l out).answer in
       let a = Reservoir.sample_crossed ws l out in Crosses (λ u. 0) reservoir_sample_refusals t a.answer out a.left
   unfolding Reservoir.sample_crossed
   reservoir_sample_refuses out =
       read_refuses Reservoir.reservoir_layout ws _ _ out (ReservoirCalls.sample_call (Reservoir.record_of ws) l out) (orders.sample_refuses (Reservoir.record_of ws) l out)
 
-  pub chooser_with_k_refuses : (s k n : ℕ) → let t = said_else (short_refusal (2 ^ 62) 0 k n) 3 ws (ChooserCalls.new_with_k_call s n k l).answer in
+  pub chooser_with_k_refuses : (s k n : ℕ) → let t = said_else (short_refusal (2 ^ 62) 0 k n) Chooser.chooser_layout.count ws (ChooserCalls.new_with_k_call s n k l).answer in
       let a = Chooser.new_with_k_crossed s k n ws l in Crosses (λ c. 0) lists.with_k_refusals t a.answer (words_list ws l) a.left
   unfolding Chooser.new_with_k_crossed
   chooser_with_k_refuses s k n =
       made_refuses Chooser.chooser_layout ws _ words_list l lists.with_k_refusals (ChooserCalls.new_with_k_call s n k l) (short_with_k n k)
       (choosers.with_k_refuses s n k l)
 
-  pub chooser_grow_refuses : let t = said_by 3 ws (ChooserCalls.grow_call (Chooser.chooser_as ws) l).answer in
+  pub chooser_grow_refuses : let t = said_by Chooser.chooser_layout.count ws (ChooserCalls.grow_call (Chooser.chooser_as ws) l).answer in
       let a = Chooser.grow_crossed ws l in Crosses (λ x. x) chooser_grow_refusals t a.answer (words_list ws l) a.left
   unfolding Chooser.grow_crossed
   chooser_grow_refuses = called_refuses Chooser.chooser_lending (λ x. x) lists.grow_refusals ws (ChooserCalls.chooser_state (Chooser.chooser_as ws) l)
       (λ s. ChooserCalls.grow_call s.chooser s.list) (choosers.grow_refuses (Chooser.chooser_as ws) l)
 
-  pub chooser_next_refuses : let t = said_by 3 ws (ChooserCalls.next_call (Chooser.chooser_as ws) l).answer in
-      let a = Chooser.next_crossed ws l in Crosses or_none chooser_next_refusals t a.answer (words_list ws l) a.left
+  pub chooser_next_refuses : let t = said_by Chooser.chooser_layout.count ws (ChooserCalls.next_call (Chooser.chooser_as ws) l).answer in
+      let a = Chooser.next_crossed ws l in Crosses found_number chooser_next_refusals t a.answer (words_list ws l) a.left
   unfolding Chooser.next_crossed
-  chooser_next_refuses = called_refuses Chooser.chooser_lending or_none lists.next_refusals ws (ChooserCalls.chooser_state (Chooser.chooser_as ws) l)
+  chooser_next_refuses = called_refuses Chooser.chooser_lending found_number lists.next_refusals ws (ChooserCalls.chooser_state (Chooser.chooser_as ws) l)
       (λ s. ChooserCalls.next_call s.chooser s.list) (choosers.next_refuses (Chooser.chooser_as ws) l)
 
-  pub chooser_shrink_refuses : let t = said_by 3 ws (ChooserCalls.shrink_call (Chooser.chooser_as ws) l).answer in
+  pub chooser_shrink_refuses : let t = said_by Chooser.chooser_layout.count ws (ChooserCalls.shrink_call (Chooser.chooser_as ws) l).answer in
       let a = Chooser.shrink_crossed ws l in Crosses (λ x. x) chooser_shrink_refusals t a.answer (words_list ws l) a.left
   unfolding Chooser.shrink_crossed
   chooser_shrink_refuses = called_refuses Chooser.chooser_lending (λ x. x) lists.shrink_refusals ws (ChooserCalls.chooser_state (Chooser.chooser_as ws) l)
       (λ s. ChooserCalls.shrink_call s.chooser s.list) (choosers.shrink_refuses (Chooser.chooser_as ws) l)
 
 module _ (ws : List ℕ) where
-  pub chooser_new_refuses : (s n : ℕ) → let t = said_else (short_refusal (2 ^ 62) 0 0 n) 3 ws (ChooserCalls.new_call s n) in
+  pub chooser_new_refuses : (s n : ℕ) → let t = said_else (short_refusal (2 ^ 62) 0 0 n) Chooser.chooser_layout.count ws (ChooserCalls.new_call s n) in
       let a = Chooser.new_crossed s n ws in Crosses (λ c. 0) chooser_new_refusals t a.answer ws a.left
   unfolding Chooser.new_crossed has same every
   chooser_new_refuses s n =
@@ -136,12 +136,12 @@ module _ (ws : List ℕ) where
 
 -- ---- whether a record fits
 
-pub reservoir_fits_refuses : (ws l : List ℕ) → let t = said_by 6 ws (result (ReservoirCalls.fitting (Reservoir.record_of ws) l)) in
+pub reservoir_fits_refuses : (ws l : List ℕ) → let t = said_by Reservoir.reservoir_layout.count ws (result (ReservoirCalls.fitting (Reservoir.record_of ws) l)) in
     Crosses {M = Unit {0}} truth words_refusals t (Reservoir.fits_crossed ws l) tt tt
 unfolding Reservoir.fits_crossed
 reservoir_fits_refuses ws l = fits_refuses Reservoir.reservoir_layout ws _
 
-pub chooser_fits_refuses : (ws l : List ℕ) → let t = said_by 3 ws (result (ChooserCalls.fitting (Chooser.chooser_as ws) l)) in
+pub chooser_fits_refuses : (ws l : List ℕ) → let t = said_by Chooser.chooser_layout.count ws (result (ChooserCalls.fitting (Chooser.chooser_as ws) l)) in
     Crosses {M = Unit {0}} truth words_refusals t (Chooser.fits_crossed ws l) tt tt
 unfolding Chooser.fits_crossed
 chooser_fits_refuses ws l = fits_refuses Chooser.chooser_layout ws _

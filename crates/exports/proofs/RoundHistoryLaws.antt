@@ -20,7 +20,7 @@ use Rattle.rounds.specs.Ledgers.{Call, admit, join, withdraw, exchanged}
 use Rattle.rounds.specs.Histories.{slot_said, nothing_said, Opens, Made, AllMade, made_none, made_next, valued, call}
 use Rattle.rounds.proofs.FormLaws.{answer_back, numbered, call_made, refused_unchanged}
 use Rattle.exports.specs.Coded.{coded_by, coded_done, coded_number}
-use Rattle.exports.specs.Reservoirs.{exchange_number, coded_exchange}
+use Rattle.exports.specs.Reservoirs.{exchange_number}
 use Rattle.exports.specs.Crossings.{Crossed, crossed, WordsList, words_list, words_by}
 use Rattle.exports.specs.Rounds.{round_words, round_as, round_lending, Lent, lent, round_in, open_crossed, admit_crossed, join_crossed, withdraw_crossed, plan_crossed}
 use Rattle.exports.specs.RoundHistories.{OpenedIn, MadeIn, admit_in, join_in, withdraw_in, AllMadeIn, none_in, next_in, number_of, numbers_of, plan_said, PlannedIn, RoundHistory}
@@ -91,7 +91,7 @@ module _ (x : Lent) (h : 7 ≤ length x.words) (c : Call) {B : Type 0} (f : B �
         long = subst (λ (v : List ℕ). 7 ≤ length v) (sym words) (long_after x.words z.answer z.left.round h);
       }
 
-code_exchange : (t : Answer (Option (ℕ × ℕ))) → coded_exchange t ≡ number_of admit (map_answer exchanged t)
+code_exchange : (t : Answer (Option (ℕ × ℕ))) → coded_by exchange_number t ≡ number_of admit (map_answer exchanged t)
 code_exchange (result none) = refl
 code_exchange (result (some p)) = refl
 code_exchange (refusal c) = refl

@@ -22,29 +22,29 @@ use Rattle.exports.specs.Rounds.{Lent, round_in, round_layout, round_lending, op
 use Rattle.exports.proofs.TooFewLaws.{made_refuses, read_refuses, called_refuses, fits_refuses}
 use Rattle.exports.specs.RefusedBy.{Crosses, said_else, said_by, words_refusals, round_admit_refusals, round_join_refusals, round_withdraw_refusals, round_plan_refusals}
 
-pub round_open_refuses : (key k n : ℕ) (ws l : List ℕ) → let t = said_else (short_refusal (2 ^ 30) 1 k n) 7 ws (open_call key k n l).answer in
+pub round_open_refuses : (key k n : ℕ) (ws l : List ℕ) → let t = said_else (short_refusal (2 ^ 30) 1 k n) round_layout.count ws (open_call key k n l).answer in
     let a = open_crossed key k n ws l in Crosses (λ r. 0) library.open_refusals t a.answer (words_list ws l) a.left
 unfolding open_crossed
 round_open_refuses key k n ws l =
     made_refuses round_layout ws _ words_list l library.open_refusals (open_call key k n l) (orders.short_refuses k n) (rounds.open_refuses key k n l)
 
 module _ (x : Lent) where
-  pub round_admit_refuses : let o = said_by 7 x.words (admit_call (round_in x)).answer in
+  pub round_admit_refuses : let o = said_by round_layout.count x.words (admit_call (round_in x)).answer in
       let a = admit_crossed x in Crosses exchange_number round_admit_refusals o a.answer x a.left
   unfolding admit_crossed
   round_admit_refuses = called_refuses round_lending _ _ x.words (round_in x) admit_call (rounds.admit_refuses (round_in x))
 
-  pub round_join_refuses : let o = said_by 7 x.words (join_call (round_in x)).answer in
+  pub round_join_refuses : let o = said_by round_layout.count x.words (join_call (round_in x)).answer in
       let a = join_crossed x in Crosses (λ slot. slot) round_join_refusals o a.answer x a.left
   unfolding join_crossed
   round_join_refuses = called_refuses round_lending _ _ x.words (round_in x) join_call (rounds.join_refuses (round_in x))
 
-  pub round_withdraw_refuses : (slot : ℕ) → let o = said_by 7 x.words (withdraw_call (round_in x) slot).answer in
+  pub round_withdraw_refuses : (slot : ℕ) → let o = said_by round_layout.count x.words (withdraw_call (round_in x) slot).answer in
       let a = withdraw_crossed slot x in Crosses (λ u. 0) round_withdraw_refusals o a.answer x a.left
   unfolding withdraw_crossed
   round_withdraw_refuses slot = called_refuses round_lending _ _ x.words (round_in x) (λ (s : State). withdraw_call s slot) (rounds.withdraw_refuses (round_in x) slot)
 
-  pub round_fits_refuses : let w = said_by 7 x.words (result (fitting (round_in x))) in
+  pub round_fits_refuses : let w = said_by round_layout.count x.words (result (fitting (round_in x))) in
       Crosses {M = Unit {0}} truth words_refusals w (fits_crossed x) tt tt
   unfolding fits_crossed
   round_fits_refuses = fits_refuses round_layout x.words _
@@ -62,7 +62,7 @@ by_promise vs o m m' a x e c = subst (λ (y : Crossed _). Crosses (λ u. 0) vs o
 
 module _ (x : Lent) (ls ts ls' ts' before now : List ℕ) where
   -- as replay by its promise
-  pub round_plan_refuses : (a : ℕ) → let o = said_by 7 x.words (plan_call (round_in x) ls ts (length before)).answer in
+  pub round_plan_refuses : (a : ℕ) → let o = said_by round_layout.count x.words (plan_call (round_in x) ls ts (length before)).answer in
       crossed a (plan_lists ls' ts') ≡ plan_crossed x ls ts (length before) → Slots.ScratchAfter a before now
       → Crosses {M = PlanLists × List ℕ} (λ u. 0) round_plan_refusals o a (plan_lists ls ts, before) (plan_lists ls' ts', now)
   unfolding plan_crossed

@@ -5,7 +5,7 @@ use Rattle.answers.specs.Answers.{after}
 use Rattle.answers.specs.Making.{short_refusal}
 use Rattle.choosers.specs.declared.choose_k.ConsistentChooseKHasher.{ConsistentChooseKHasher}
 use Rattle.choosers.specs.ChooserCalls.{chooser_of, ChooserState, chooser_state, fitting, new_call, new_with_k_call, grow_call, next_call, shrink_call}
-use Rattle.exports.specs.Coded.{truth, or_none}
+use Rattle.exports.specs.Coded.{truth, found_number}
 use Rattle.exports.specs.Crossings.{Crossed, WordsList, words_list, Layout, Lending, made, called, fits_by}
 
 -- the state, n and k
@@ -33,7 +33,7 @@ unfoldable pub grow_crossed : List ℕ → List ℕ → Crossed WordsList
 grow_crossed ws l = called chooser_lending (λ x. x) ws (chooser_state (chooser_as ws) l) (λ s. grow_call s.chooser s.list)
 
 unfoldable pub next_crossed : List ℕ → List ℕ → Crossed WordsList
-next_crossed ws l = called chooser_lending or_none ws (chooser_state (chooser_as ws) l) (λ s. next_call s.chooser s.list)
+next_crossed ws l = called chooser_lending found_number ws (chooser_state (chooser_as ws) l) (λ s. next_call s.chooser s.list)
 
 unfoldable pub shrink_crossed : List ℕ → List ℕ → Crossed WordsList
 shrink_crossed ws l = called chooser_lending (λ x. x) ws (chooser_state (chooser_as ws) l) (λ s. shrink_call s.chooser s.list)

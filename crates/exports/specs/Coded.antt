@@ -9,7 +9,8 @@ use Rattle.hashes.specs.Hashes.{feed}
 use Rattle.hashes.specs.Calls.{limited}
 use Rattle.hashes.specs.Walks.{hashes_below, hashes_from}
 
--- ---- the one coding: the number of a result, refusal c as 2^63 + c. No result has so large a number.
+-- ---- the one coding: the number of a result, refusal c as 2^63 + c. Every number of a result is below 2^63, but that none is 2^63; refusals begin
+-- at 2^63 + 1.
 
 abbrev pub coded_by : {A : Type 0} → (A → ℕ) → Answer A → ℕ
 coded_by value (result x) = value x
@@ -20,11 +21,11 @@ abbrev pub coded_number : Answer ℕ → ℕ
 coded_number t = coded_by (λ x. x) t
 
 -- none as 2^63
-abbrev pub or_none : Option ℕ → ℕ
-or_none o = get_or o (2 ^ 63)
+abbrev pub found_number : Option ℕ → ℕ
+found_number o = get_or o (2 ^ 63)
 
 abbrev pub coded_hash : Answer (Option ℕ) → ℕ
-coded_hash t = coded_by or_none t
+coded_hash t = coded_by found_number t
 
 -- 0 for a call with nothing to answer but that it was done
 abbrev pub coded_done : {A : Type 0} → Answer A → ℕ

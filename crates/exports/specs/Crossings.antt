@@ -28,9 +28,13 @@ pub record Layout (R : Type 0) : Type 0 where
   pub words : R → List ℕ
   pub reads : List ℕ → R
 
--- With fewer words than a record has, a call is refused with this number and leaves what it was lent.
+-- by whether the words are fewer than a record has
+abbrev pub if_few : {R X : Type 0} → Layout R → List ℕ → X → X → X
+if_few y ws few a = cond (ltb (length ws) y.count) few a
+
+-- With fewer, a call is refused with this number and leaves what it was lent.
 abbrev pub enough : {R M : Type 0} → Layout R → ℕ → List ℕ → M → Crossed M → Crossed M
-enough y w ws lent a = cond (ltb (length ws) y.count) (crossed (2 ^ 63 + w) lent) a
+enough y w ws lent a = if_few y ws (crossed (2 ^ 63 + w) lent) a
 
 -- the words after a call: a record in their first places where it has one; a refusal leaves them
 abbrev pub words_by : {A : Type 0} → (A → List ℕ) → List ℕ → Answer A → List ℕ
@@ -65,6 +69,6 @@ called d value ws s call =
 abbrev pub read_by : {R M A : Type 0} → Layout R → (A → ℕ) → List ℕ → M → After M A → Crossed M
 read_by y value ws m a = enough y 4 ws m (crossed (coded_by value a.answer) a.left)
 
--- whether a record fits, of which `b` says whether it does: 1 or 0, or refusal 4
+-- whether a record fits: b, which is 1 or 0, or refusal 4
 abbrev pub fits_by : {R : Type 0} → Layout R → List ℕ → ℕ → ℕ
-fits_by y ws b = cond (ltb (length ws) y.count) (2 ^ 63 + 4) b
+fits_by y ws b = if_few y ws (2 ^ 63 + 4) b

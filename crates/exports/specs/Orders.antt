@@ -7,7 +7,7 @@ use Rattle.lists.specs.Lists.{zero_to}
 use Rattle.orders.specs.declared.consistent_permutation.ConsistentPermutation.{ConsistentPermutation}
 use Rattle.orders.specs.Orders.{P}
 use Rattle.orders.specs.OrderCalls.{order_of, key_of, new_call, next_call}
-use Rattle.exports.specs.Coded.{or_none, digest}
+use Rattle.exports.specs.Coded.{found_number, digest}
 use Rattle.exports.specs.Crossings.{Crossed, Layout, Lending, made, called}
 
 -- the key's low and high 32 bits, n, and the fifteen counters
@@ -30,7 +30,7 @@ abbrev pub order_lending : Lending ConsistentPermutation ConsistentPermutation (
 order_lending = record { layout = order_layout; own = λ o. o; lay = λ ws o. ws }
 
 unfoldable pub next_order_crossed : List ℕ → Crossed (List ℕ)
-next_order_crossed ws = called order_lending or_none ws (order_as ws) next_call
+next_order_crossed ws = called order_lending found_number ws (order_as ws) next_call
 
 -- ---- the first numbers of an order, as one number; 1 for n above 2^30
 

@@ -27,9 +27,6 @@ abbrev pub exchange_number : Option (ℕ × ℕ) → ℕ
 exchange_number none = 2 ^ 63
 exchange_number (some x) = x.0 * 2 ^ 32 + x.1
 
-abbrev pub coded_exchange : Answer (Option (ℕ × ℕ)) → ℕ
-coded_exchange t = coded_by exchange_number t
-
 -- ---- what the calls leave
 
 unfoldable pub new_crossed : ℕ → ℕ → ℕ → List ℕ → List ℕ → Crossed WordsList

@@ -3,7 +3,7 @@ ghost use Rattle.std.specs.Prelude.{◌≡◌, cond, ◌≤◌, length};
 ghost use Rattle.lists.specs.Lists.{written};
 ghost use Rattle.answers.specs.Refusals.{answer_of};
 ghost use Rattle.exports.specs.Crossings.{crossed, words_list};
-ghost use Rattle.exports.specs.Chooser.{chooser_words, chooser_as, new_crossed, new_with_k_crossed, grow_crossed, next_crossed, shrink_crossed, fits_crossed};
+ghost use Rattle.exports.specs.Chooser.{chooser_layout, chooser_words, chooser_as, new_crossed, new_with_k_crossed, grow_crossed, next_crossed, shrink_crossed, fits_crossed};
 
 use crate::records::Record;
 use crate::{parts, records};
@@ -15,7 +15,7 @@ impl Record for ConsistentChooseKHasher {
 
     const WORDS: usize = 3;
 
-    ghost count = { 3 };
+    ghost count = { chooser_layout.count };
 
     ghost over = { λ words c. written (chooser_words c) words };
 

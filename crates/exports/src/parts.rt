@@ -3,8 +3,8 @@
 ghost use Rattle.std.specs.Prelude.{◌≡◌, ◌+◌, ◌*◌, ◌/◌, ◌%◌, ◌^◌, ◌<◌, OnOk};
 ghost use Rattle.answers.specs.Refusals.{number, answer_of, answer_of_option};
 ghost use Rattle.orders.specs.ReservoirCalls.{answer_of_exchange};
-ghost use Rattle.exports.specs.Coded.{truth, coded_done, coded_number, coded_hash, coded_truth};
-ghost use Rattle.exports.specs.Reservoirs.{coded_exchange};
+ghost use Rattle.exports.specs.Coded.{truth, coded_by, coded_done, coded_number, coded_hash, coded_truth};
+ghost use Rattle.exports.specs.Reservoirs.{exchange_number};
 
 use answers::Refusal;
 use orders::consistent_reservoir::Exchange;
@@ -79,7 +79,7 @@ pub(crate) fn yes_or_no(said: Result<bool, Refusal>) -> u64
 }
 
 pub(crate) fn exchange(said: Result<Option<Exchange>, Refusal>) -> u64
-    ensures { result ≡ coded_exchange (answer_of_exchange said) }
+    ensures { result ≡ coded_by exchange_number (answer_of_exchange said) }
 {
     match said {
         Ok(Some(e)) => joined(e.leaves, e.enters),

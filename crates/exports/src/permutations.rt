@@ -7,7 +7,7 @@ ghost use Rattle.answers.specs.Refusals.{answer_of_option};
 ghost use Rattle.exports.specs.Coded.{coded_number, fed_all};
 ghost use Rattle.exports.specs.Crossings.{crossed};
 ghost use Rattle.exports.specs.InnerDigests.{fed_with};
-ghost use Rattle.exports.specs.Orders.{order_words, order_as, new_order_crossed, next_order_crossed, order_digest};
+ghost use Rattle.exports.specs.Orders.{order_layout, order_words, order_as, new_order_crossed, next_order_crossed, order_digest};
 
 use crate::records::Record;
 use crate::{parts, records};
@@ -20,7 +20,7 @@ impl Record for ConsistentPermutation {
 
     const WORDS: usize = 18;
 
-    ghost count = { 18 };
+    ghost count = { order_layout.count };
 
     ghost over = { λ ws o. written (order_words o) ws };
 

@@ -3,7 +3,7 @@
 ghost use Rattle.std.specs.Prelude.{◌≡◌, cond, ◌≤◌, length};
 ghost use Rattle.lists.specs.Lists.{written};
 ghost use Rattle.exports.specs.Crossings.{crossed, words_list};
-ghost use Rattle.exports.specs.Reservoirs.{words_of, record_of, new_crossed, next_crossed, grow_crossed, sample_crossed, fits_crossed};
+ghost use Rattle.exports.specs.Reservoirs.{reservoir_layout, words_of, record_of, new_crossed, next_crossed, grow_crossed, sample_crossed, fits_crossed};
 
 use crate::records::Record;
 use crate::{parts, records};
@@ -15,7 +15,7 @@ impl Record for ConsistentReservoir {
 
     const WORDS: usize = 6;
 
-    ghost count = { 6 };
+    ghost count = { reservoir_layout.count };
 
     ghost over = { λ words r. written (words_of r) words };
 

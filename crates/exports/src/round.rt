@@ -6,7 +6,7 @@ ghost use Rattle.rounds.specs.Plans.{plan_lists};
 ghost use Rattle.rounds.specs.Replays.{replay_memory};
 ghost use Rattle.exports.specs.Crossings.{crossed, words_list};
 ghost use Rattle.exports.specs.Slots.{ScratchAfter};
-ghost use Rattle.exports.specs.Rounds.{round_words, round_as, lent, open_crossed, admit_crossed, join_crossed, withdraw_crossed, plan_crossed, fits_crossed, replay_crossed, ReplayScratchAs, ReplayedAs};
+ghost use Rattle.exports.specs.Rounds.{round_layout, round_words, round_as, lent, open_crossed, admit_crossed, join_crossed, withdraw_crossed, plan_crossed, fits_crossed, replay_crossed, ReplayScratchAs, ReplayedAs};
 
 use crate::records::Record;
 use crate::{parts, records};
@@ -20,7 +20,7 @@ impl Record for Round {
 
     const WORDS: usize = 7;
 
-    ghost count = { 7 };
+    ghost count = { round_layout.count };
 
     ghost over = { λ words r. written (round_words r) words };
 

@@ -30,7 +30,7 @@ abbrev pub after_cut : Cutting → List ℕ → AfterCut
 after_cut c l = record { cut = c; line = l }
 
 -- A cut of a piece, where the first m bytes of `line` are held: up to and with the first line feed, or all of it. A line that stands
--- in the piece, with nothing held, is not written into the list.
+-- in the piece, with nothing held, is not written into the list; it too is given no further than the list has room for.
 unfoldable pub cut_call : List ℕ → ℕ → List ℕ → AfterCut
 cut_call piece m line =
     let e = end_of piece in

@@ -20,7 +20,7 @@ use Rattle.fields.proofs.FieldLaws.{next_some, next_none}
 use Rattle.fields.proofs.DecimalLaws.{length_decimal, length_tabbed}
 use Rattle.fields.proofs.PutLaws.{first_none, first_then}
 use Rattle.lines.specs.Replies.{joined_word, withdrawn_word, refused_word, slot_text, place_line, place_lines, text_of, reply_text}
-use Rattle.lines.specs.InnerLines.{admitted_reply, line_of}
+use Rattle.lines.specs.InnerLines.{admitted_reply, accepted_reply}
 use Rattle.lines.specs.declared.texts.Accepted.{Accepted}
 use Rattle.lines.specs.declared.texts.Accepted.TheVariants as accepted
 use Rattle.answers.specs.Answers.{refusal}
@@ -80,7 +80,7 @@ length_admitted (rust.Some e) = simp length-append (omega (arith, length_tabbed 
 length_admitted rust.None = omega arith
 
 -- no answer is longer than a plan of all places and a line
-pub length_answer : (a : Accepted) (ls ts : List ℕ) → length (reply_text (line_of a ls ts)) ≤ 33 * length ls + 32
+pub length_answer : (a : Accepted) (ls ts : List ℕ) → length (reply_text (accepted_reply a ls ts)) ≤ 33 * length ls + 32
 unfolding reply_text
 length_answer accepted.Opened ls ts = omega arith
 length_answer (accepted.Admitted e) ls ts = omega (arith, length_admitted e)

@@ -13,7 +13,7 @@ use Rattle.lines.specs.declared.texts.Accepted.TheVariants as accepted
 
 -- ---- a line taken apart
 
--- what a form tells of a line: refusal 12 where the line has another
+-- what a form says of a line: refusal 12 where the line has another
 abbrev pub answer_of_form : Option Command → Answer Command
 answer_of_form (Some c) = result c
 answer_of_form None = refusal 12
@@ -26,14 +26,14 @@ admitted_reply (Some e) = admitted e.enters e.leaves
 admitted_reply None = nothing
 
 -- of a plan the first k places of its two lists
-abbrev pub line_of : Accepted → List ℕ → List ℕ → Reply
-line_of accepted.Opened ls ts = opened
-line_of (accepted.Admitted e) ls ts = admitted_reply e
-line_of (accepted.Joined s) ls ts = joined s
-line_of (accepted.Withdrawn s) ls ts = withdrawn s
-line_of (accepted.Planned k) ls ts = planned (sheets (take k ls) (take k ts))
+abbrev pub accepted_reply : Accepted → List ℕ → List ℕ → Reply
+accepted_reply accepted.Opened ls ts = opened
+accepted_reply (accepted.Admitted e) ls ts = admitted_reply e
+accepted_reply (accepted.Joined s) ls ts = joined s
+accepted_reply (accepted.Withdrawn s) ls ts = withdrawn s
+accepted_reply (accepted.Planned k) ls ts = planned (sheets (take k ls) (take k ts))
 
 -- or a refusal by its number
 abbrev pub reply_of : Result Accepted Refusal → List ℕ → List ℕ → Answer Reply
-reply_of (Ok a) ls ts = result (line_of a ls ts)
+reply_of (Ok a) ls ts = result (accepted_reply a ls ts)
 reply_of (Err why) ls ts = refusal (number why)

@@ -5,7 +5,7 @@ ghost use Rattle.rounds.specs.Ledgers.{sheet};
 ghost use Rattle.rounds.specs.Plans.{sheets};
 ghost use Rattle.fields.specs.Texts.{HasRoom, SameList, Puts, PutsFirst};
 ghost use Rattle.lines.specs.Replies.{place_line, place_lines, reply_text, text_of};
-ghost use Rattle.lines.specs.InnerLines.{admitted_reply, line_of, reply_of};
+ghost use Rattle.lines.specs.InnerLines.{admitted_reply, accepted_reply, reply_of};
 
 use answers::Refusal;
 use fields::texts::Text;
@@ -58,7 +58,7 @@ fn push_plan(text: &mut Text, locations: &[u32], terminals: &[u32], k: u32)
 
 fn push_answer(text: &mut Text, answer: Accepted, locations: &[u32], terminals: &[u32])
     ensures lent { SameList text.old text.new }
-    ensures puts { PutsFirst text.old (reply_text (line_of answer locations.now terminals.now)) text.new }
+    ensures puts { PutsFirst text.old (reply_text (accepted_reply answer locations.now terminals.now)) text.new }
 {
     match answer {
         Accepted::Opened => text.push_bytes(b"opened\n"),

@@ -4,7 +4,7 @@ use Rattle.std.proofs.Common.{◌∙◌, rules}
 use Rattle.answers.specs.Answers.{after}
 use Rattle.answers.specs.Refusals.{answer_of_option}
 use Rattle.choosers.specs.ChooserCalls.{ChooserState, chooser_state, next_call}
-use Rattle.exports.specs.Coded.{or_none}
+use Rattle.exports.specs.Coded.{found_number}
 use Rattle.exports.specs.Chooser.{chooser_layout, chooser_lending, next_crossed}
 use Rattle.exports.proofs.KeptLaws.{kept_option}
 use Rattle.exports.proofs.CrossLaws.{too_few, called_is}
@@ -20,5 +20,5 @@ returns c =
     let a = c.args in
     let said = c.next-said in
     let words = rw c.is_ok.ensures.value at c.keep.ensures in
-    called_is chooser_lending (λ c. chooser_state c a.list.now) a.words.now (search rules) or_none (λ (s : ChooserState). next_call s.chooser s.list) _ (after (answer_of_option said.result) (chooser_state said.new.self _)) _ _
+    called_is chooser_lending (λ c. chooser_state c a.list.now) a.words.now (search rules) found_number (λ (s : ChooserState). next_call s.chooser s.list) _ (after (answer_of_option said.result) (chooser_state said.new.self _)) _ _
     c.loaded-c.ensures said.ensures.answer c.hash.ensures (words ∙ kept_option _ _ said.result)

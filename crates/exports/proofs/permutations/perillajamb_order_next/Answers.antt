@@ -4,7 +4,7 @@ use Rattle.std.proofs.Common.{◌∙◌, rules}
 use Rattle.answers.specs.Answers.{after}
 use Rattle.answers.specs.Refusals.{answer_of_option}
 use Rattle.orders.specs.OrderCalls.{next_call}
-use Rattle.exports.specs.Coded.{or_none}
+use Rattle.exports.specs.Coded.{found_number}
 use Rattle.exports.specs.Orders.{order_layout, order_lending, next_order_crossed}
 use Rattle.exports.proofs.KeptLaws.{kept_option}
 use Rattle.exports.proofs.CrossLaws.{too_few, called_is}
@@ -20,5 +20,5 @@ returns c =
     let a = c.args in
     let said = c.next-said in
     let words = rw c.is_ok.ensures.value at c.keep.ensures in
-    called_is order_lending (λ o. o) a.ws.now (search rules) or_none next_call _ (after (answer_of_option said.result) _) _ _
+    called_is order_lending (λ o. o) a.ws.now (search rules) found_number next_call _ (after (answer_of_option said.result) _) _ _
     c.loaded-order.ensures said.ensures c.number_or_none.ensures (words ∙ kept_option _ _ said.result)
