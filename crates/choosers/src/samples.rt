@@ -1,5 +1,5 @@
 // Samples in the places of a lent list: whether they ascend, one more of them, their lowering, and all of them at once.
-ghost use Rattle.std.specs.Prelude.{◌≡◌, ℕ, ◌⊎◌, ◌+◌, ◌-◌, ◌^◌, ◌<◌, ◌≤◌, map, max, length};
+ghost use Rattle.std.specs.Prelude.{◌≡◌, ℕ, ◌+◌, ◌-◌, ◌^◌, ◌<◌, ◌≤◌, map, length};
 ghost use Rattle.choosers.specs.Choosers.{g, largest_g, S, moved, lower_at};
 ghost use Rattle.choosers.specs.ChooserCalls.{ascends};
 ghost use Rattle.choosers.specs.InnerChoosers.{grow_in, OwnOr, Owns};

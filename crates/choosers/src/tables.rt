@@ -1,7 +1,7 @@
 // Passes over the bytes of a slot map's slots.
-ghost use Rattle.std.specs.Prelude.{◌≡◌, true, not, ◌≤◌, ◌<◌, eqb, length, IfSome, IfNone, get_or, ◌↔◌, Contains};
+ghost use Rattle.std.specs.Prelude.{◌≡◌, true, ◌≤◌, ◌<◌, length, IfSome, IfNone, get_or, ◌↔◌, Contains};
 ghost use Rattle.lists.specs.Lists.{every, not_below};
-ghost use Rattle.choosers.specs.Slots.{actives, vacant};
+ghost use Rattle.choosers.specs.Slots.{actives};
 ghost use Rattle.choosers.specs.SlotCalls.{at_most_one, slot_limit};
 ghost use Rattle.choosers.specs.InnerSlots.{Taken};
 

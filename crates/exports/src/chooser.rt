@@ -1,7 +1,6 @@
 // Choosers for C and Rust. The record is three words that the caller keeps: the state, n, k.
-ghost use Rattle.std.specs.Prelude.{◌≡◌, cond, ◌≤◌, length};
+ghost use Rattle.std.specs.Prelude.{◌≡◌};
 ghost use Rattle.lists.specs.Lists.{written};
-ghost use Rattle.answers.specs.Refusals.{answer_of};
 ghost use Rattle.exports.specs.Crossings.{crossed, words_list};
 ghost use Rattle.exports.specs.Chooser.{chooser_layout, chooser_words, chooser_as, new_crossed, new_with_k_crossed, grow_crossed, next_crossed, shrink_crossed, fits_crossed};
 

@@ -1,6 +1,6 @@
 // Reservoirs for C and Rust. The record is six words that the caller keeps: the key's low and high 32 bits, k, n, the layer,
 // the used length.
-ghost use Rattle.std.specs.Prelude.{◌≡◌, cond, ◌≤◌, length};
+ghost use Rattle.std.specs.Prelude.{◌≡◌};
 ghost use Rattle.lists.specs.Lists.{written};
 ghost use Rattle.exports.specs.Crossings.{crossed, words_list};
 ghost use Rattle.exports.specs.Reservoirs.{reservoir_layout, words_of, record_of, new_crossed, next_crossed, grow_crossed, sample_crossed, fits_crossed};

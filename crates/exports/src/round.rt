@@ -1,6 +1,6 @@
 // Rounds for C and Rust. The record is seven words that the caller keeps: the key's low and high 32 bits, k, n, the layer, the used
 // length, the slot count.
-ghost use Rattle.std.specs.Prelude.{◌≡◌, cond, ◌≤◌, length};
+ghost use Rattle.std.specs.Prelude.{◌≡◌, length};
 ghost use Rattle.lists.specs.Lists.{written};
 ghost use Rattle.rounds.specs.Plans.{plan_lists};
 ghost use Rattle.rounds.specs.Replays.{replay_memory};

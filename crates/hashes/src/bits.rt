@@ -1,5 +1,5 @@
 // Single bits of a word: powers of two, remainders by them, the highest and the lowest bit that is set.
-ghost use Rattle.std.specs.Prelude.{◌≡◌, ℕ, suc, ◌%◌, ◌/◌, ◌^◌, ◌<◌, ◌≤◌};
+ghost use Rattle.std.specs.Prelude.{◌≡◌, suc, ◌%◌, ◌/◌, ◌^◌, ◌<◌, ◌≤◌};
 
 // The power of two 2^j.
 pub(crate) fn power(j: u32) -> u64

@@ -1,6 +1,5 @@
 // One bucket of a state: its draws and the numbers that they give.
 ghost use Rattle.std.specs.Prelude.{◌≡◌, cond, ◌+◌, ◌%◌, ◌^◌, ◌<◌};
-ghost use Rattle.std.proofs.Math.Option.{get_or};
 ghost use Rattle.answers.specs.Refusals.{optional};
 ghost use Rattle.hashes.specs.Hashes.{feed, draw, draws, later_numbers};
 ghost use Rattle.hashes.specs.InnerSearch.{first_later, least_of, least_from, numbers_of};

@@ -1,5 +1,5 @@
 // The text of an answer, put behind what stands in a list so far.
-ghost use Rattle.std.specs.Prelude.{◌≡◌, ◌++◌, ◌+◌, ◌*◌, ◌≤◌, length, take};
+ghost use Rattle.std.specs.Prelude.{◌+◌, ◌*◌, length, take};
 ghost use Rattle.std.proofs.Math.Option.{some};
 ghost use Rattle.rounds.specs.Ledgers.{sheet};
 ghost use Rattle.rounds.specs.Plans.{sheets};

@@ -1,6 +1,6 @@
 -- Calls on a round as numbers: which number is which call, and how a number is read.
 -- Assumes nothing.
-use Rattle.std.specs.Prelude.{◌≡◌, true, false, Bool, cond, ◌||◌, ℕ, ◌^◌, ◌/◌, ◌%◌, eqb, Result, MatchResult}
+use Rattle.std.specs.Prelude.{◌≡◌, true, false, Bool, cond, ◌||◌, ℕ, ◌+◌, ◌^◌, ◌/◌, ◌%◌, eqb, Result, MatchResult}
 use Rattle.answers.specs.declared.Refusal.{Refusal}
 use Rattle.answers.specs.declared.Refusal.TheVariants.{Misfit}
 use Rattle.rounds.specs.declared.calls.Call as numbered
@@ -13,6 +13,12 @@ known x = eqb x 0 || eqb x 1 || eqb (x / 2 ^ 32) 1
 
 unfoldable pub call_of : ℕ → Call
 call_of x = cond (eqb x 0) admit (cond (eqb x 1) join (withdraw (x % 2 ^ 32)))
+
+-- the number of a call
+unfoldable pub number_of : Call → ℕ
+number_of admit = 0
+number_of join = 1
+number_of (withdraw s) = 2 ^ 32 + s
 
 -- the code's call as the ledger's: "each by name with its numbers"
 abbrev pub as_call : numbered.Call → Call

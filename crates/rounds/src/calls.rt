@@ -1,5 +1,6 @@
 // Calls on a round as numbers, for lists of calls that are given to code.
-ghost use Rattle.rounds.specs.Calls.{Reads};
+ghost use Rattle.std.specs.Prelude.{◌≡◌};
+ghost use Rattle.rounds.specs.Calls.{number_of, as_call, Reads};
 
 use answers::Refusal;
 
@@ -9,6 +10,19 @@ pub enum Call {
     Admit,
     Join,
     Withdraw(u32),
+}
+
+impl Call {
+    // The number of the call.
+    pub fn number(self) -> u64
+        ensures { result ≡ number_of (as_call self) }
+    {
+        match self {
+            Call::Admit => 0,
+            Call::Join => 1,
+            Call::Withdraw(slot) => 0x1_0000_0000 + u64::from(slot),
+        }
+    }
 }
 
 // The call that a number is: refusal 12 where it is none.
