@@ -33,7 +33,7 @@ reads_ok x (Err w) p y = absurd (true≢false (sym y ∙ p.0))
 -- ---- the number of a call is read back as that call
 
 pub number_again : (c : Call) → ((s : ℕ) → c ≡ withdraw s → s < 2 ^ 32) → (known (number_of c) ≡ true) × (call_of (number_of c) ≡ c)
-unfolding known call_of number_of
+unfolding known call_of
 number_again admit small = (refl, refl)
 number_again join small = (refl, refl)
 number_again (withdraw s) small =

@@ -15,7 +15,7 @@ unfoldable pub call_of : ℕ → Call
 call_of x = cond (eqb x 0) admit (cond (eqb x 1) join (withdraw (x % 2 ^ 32)))
 
 -- the number of a call
-unfoldable pub number_of : Call → ℕ
+abbrev pub number_of : Call → ℕ
 number_of admit = 0
 number_of join = 1
 number_of (withdraw s) = 2 ^ 32 + s
