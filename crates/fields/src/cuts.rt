@@ -8,7 +8,7 @@ ghost use Rattle.fields.specs.Cuts.{kept, after_cut, cut_call};
 pub const HELD_MOST: usize = 81;
 
 // What a cut came to. Of a longer line than `HELD_MOST` so many first bytes are the line here.
-#[derive(Clone, Copy, Debug, PartialEq, Eq)]
+#[derive(Clone, Copy)]
 pub enum Cutting {
     // No line feed: all of the piece was taken, and so many bytes are held.
     Open { held: usize },

@@ -4,7 +4,7 @@ ghost use Rattle.fields.specs.Lines.{fields};
 ghost use Rattle.fields.specs.Parts.{listed, at_most_four};
 
 // The fields of a line, by how many there are: five or more are too many.
-#[derive(Clone, Copy, Debug, PartialEq, Eq)]
+#[derive(Clone, Copy)]
 pub enum Fields<'a> {
     One(&'a [u8]),
     Two(&'a [u8], &'a [u8]),
