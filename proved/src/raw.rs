@@ -7,6 +7,8 @@ extern "C" {
     fn perillajamb_splitmix64(v: u64) -> u64;
     fn perillajamb_layer_apply(key: u64, layer: u32, x: u32) -> u64;
     fn perillajamb_layer_xors(key: u64, layer: u32, n: u32) -> u64;
+    fn perillajamb_layer_invert(key: u64, layer: u32, y: u32) -> u64;
+    fn perillajamb_input_xors(key: u64, layer: u32, n: u32) -> u64;
     fn perillajamb_seq_builder(state: u64, i: u64) -> u64;
     fn perillajamb_prev(state: u64, n: u64) -> u64;
     fn perillajamb_into_prev(state: u64, n: u64) -> u64;
@@ -16,34 +18,180 @@ extern "C" {
     fn perillajamb_falling_digest(state: u64, n: u64) -> u64;
     fn perillajamb_rising_digest(state: u64, n: u64) -> u64;
     fn perillajamb_chooser_new(state: u64, n: u64, words: *mut u64, words_len: usize) -> u64;
-    fn perillajamb_chooser_new_with_k(state: u64, k: u64, n: u64, words: *mut u64, words_len: usize, list: *mut u64, list_len: usize) -> u64;
-    fn perillajamb_chooser_grow_k(words: *mut u64, words_len: usize, list: *mut u64, list_len: usize) -> u64;
-    fn perillajamb_chooser_next(words: *mut u64, words_len: usize, list: *mut u64, list_len: usize) -> u64;
-    fn perillajamb_chooser_shrink_n(words: *mut u64, words_len: usize, list: *mut u64, list_len: usize) -> u64;
-    fn perillajamb_chooser_fits(words: *const u64, words_len: usize, list: *const u64, list_len: usize) -> u64;
+    fn perillajamb_chooser_new_with_k(
+        state: u64,
+        k: u64,
+        n: u64,
+        words: *mut u64,
+        words_len: usize,
+        list: *mut u64,
+        list_len: usize,
+    ) -> u64;
+    fn perillajamb_chooser_grow_k(
+        words: *mut u64,
+        words_len: usize,
+        list: *mut u64,
+        list_len: usize,
+    ) -> u64;
+    fn perillajamb_chooser_next(
+        words: *mut u64,
+        words_len: usize,
+        list: *mut u64,
+        list_len: usize,
+    ) -> u64;
+    fn perillajamb_chooser_shrink_n(
+        words: *mut u64,
+        words_len: usize,
+        list: *mut u64,
+        list_len: usize,
+    ) -> u64;
+    fn perillajamb_chooser_fits(
+        words: *const u64,
+        words_len: usize,
+        list: *const u64,
+        list_len: usize,
+    ) -> u64;
     fn perillajamb_order_new(key: u64, n: u32, ws: *mut u32, ws_len: usize) -> u64;
     fn perillajamb_order_next(ws: *mut u32, ws_len: usize) -> u64;
+    fn perillajamb_place(key: u64, n: u32, location: u32) -> u64;
     fn perillajamb_order_digest(key: u64, n: u32, count: u32) -> u64;
-    fn perillajamb_reservoir_new(key: u64, k: u32, n: u32, words: *mut u32, words_len: usize, list: *mut u32, list_len: usize) -> u64;
-    fn perillajamb_reservoir_next(words: *mut u32, words_len: usize, list: *mut u32, list_len: usize) -> u64;
-    fn perillajamb_reservoir_grow_layer(words: *mut u32, words_len: usize, list: *mut u32, list_len: usize) -> u64;
-    fn perillajamb_reservoir_sample(words: *const u32, words_len: usize, list: *const u32, list_len: usize, out: *mut u32, out_len: usize) -> u64;
-    fn perillajamb_reservoir_fits(words: *const u32, words_len: usize, list: *const u32, list_len: usize) -> u64;
-    fn perillajamb_round_open(key: u64, k: u32, n: u32, words: *mut u32, words_len: usize, list: *mut u32, list_len: usize) -> u64;
-    fn perillajamb_round_admit(words: *mut u32, words_len: usize, list: *mut u32, list_len: usize, table: *const u8, table_len: usize) -> u64;
-    fn perillajamb_round_join(words: *mut u32, words_len: usize, list: *const u32, list_len: usize, table: *mut u8, table_len: usize) -> u64;
-    fn perillajamb_round_withdraw(slot: u32, words: *mut u32, words_len: usize, list: *const u32, list_len: usize, table: *mut u8, table_len: usize) -> u64;
-    fn perillajamb_round_plan(words: *const u32, words_len: usize, list: *const u32, list_len: usize, table: *const u8, table_len: usize, locations: *mut u32, locations_len: usize, terminals: *mut u32, terminals_len: usize, scratch: *mut u64, scratch_len: usize) -> u64;
-    fn perillajamb_round_fits(words: *const u32, words_len: usize, list: *const u32, list_len: usize, table: *const u8, table_len: usize) -> u64;
-    fn perillajamb_round_replay(key: u64, k: u32, n: u32, calls: *const u64, calls_len: usize, list: *mut u32, list_len: usize, table: *mut u8, table_len: usize, answers: *mut u32, answers_len: usize, locations: *mut u32, locations_len: usize, terminals: *mut u32, terminals_len: usize, scratch: *mut u64, scratch_len: usize) -> u64;
+    fn perillajamb_reservoir_new(
+        key: u64,
+        k: u32,
+        n: u32,
+        words: *mut u32,
+        words_len: usize,
+        list: *mut u32,
+        list_len: usize,
+    ) -> u64;
+    fn perillajamb_reservoir_next(
+        words: *mut u32,
+        words_len: usize,
+        list: *mut u32,
+        list_len: usize,
+    ) -> u64;
+    fn perillajamb_reservoir_grow_layer(
+        words: *mut u32,
+        words_len: usize,
+        list: *mut u32,
+        list_len: usize,
+    ) -> u64;
+    fn perillajamb_reservoir_sample(
+        words: *const u32,
+        words_len: usize,
+        list: *const u32,
+        list_len: usize,
+        out: *mut u32,
+        out_len: usize,
+    ) -> u64;
+    fn perillajamb_reservoir_fits(
+        words: *const u32,
+        words_len: usize,
+        list: *const u32,
+        list_len: usize,
+    ) -> u64;
+    fn perillajamb_round_open(
+        key: u64,
+        k: u32,
+        n: u32,
+        words: *mut u32,
+        words_len: usize,
+        list: *mut u32,
+        list_len: usize,
+    ) -> u64;
+    fn perillajamb_round_admit(
+        words: *mut u32,
+        words_len: usize,
+        list: *mut u32,
+        list_len: usize,
+        table: *const u8,
+        table_len: usize,
+    ) -> u64;
+    fn perillajamb_round_join(
+        words: *mut u32,
+        words_len: usize,
+        list: *const u32,
+        list_len: usize,
+        table: *mut u8,
+        table_len: usize,
+    ) -> u64;
+    fn perillajamb_round_withdraw(
+        slot: u32,
+        words: *mut u32,
+        words_len: usize,
+        list: *const u32,
+        list_len: usize,
+        table: *mut u8,
+        table_len: usize,
+    ) -> u64;
+    fn perillajamb_round_plan(
+        words: *const u32,
+        words_len: usize,
+        list: *const u32,
+        list_len: usize,
+        table: *const u8,
+        table_len: usize,
+        locations: *mut u32,
+        locations_len: usize,
+        terminals: *mut u32,
+        terminals_len: usize,
+        scratch: *mut u64,
+        scratch_len: usize,
+    ) -> u64;
+    fn perillajamb_round_fits(
+        words: *const u32,
+        words_len: usize,
+        list: *const u32,
+        list_len: usize,
+        table: *const u8,
+        table_len: usize,
+    ) -> u64;
+    fn perillajamb_round_replay(
+        key: u64,
+        k: u32,
+        n: u32,
+        calls: *const u64,
+        calls_len: usize,
+        list: *mut u32,
+        list_len: usize,
+        table: *mut u8,
+        table_len: usize,
+        answers: *mut u32,
+        answers_len: usize,
+        locations: *mut u32,
+        locations_len: usize,
+        terminals: *mut u32,
+        terminals_len: usize,
+        scratch: *mut u64,
+        scratch_len: usize,
+    ) -> u64;
     fn perillajamb_slots_add(total: u32, table: *mut u8, table_len: usize) -> u64;
     fn perillajamb_slots_remove(slot: u32, total: u32, table: *mut u8, table_len: usize) -> u64;
     fn perillajamb_slots_len(total: u32, table: *const u8, table_len: usize) -> u64;
     fn perillajamb_slots_is_empty(total: u32, table: *const u8, table_len: usize) -> u64;
-    fn perillajamb_slots_is_active(slot: u32, total: u32, table: *const u8, table_len: usize) -> u64;
+    fn perillajamb_slots_is_active(
+        slot: u32,
+        total: u32,
+        table: *const u8,
+        table_len: usize,
+    ) -> u64;
     fn perillajamb_slots_fits(total: u32, table: *const u8, table_len: usize) -> u64;
-    fn perillajamb_slots_get(state: u64, total: u32, table: *const u8, table_len: usize, scratch: *mut u64, scratch_len: usize) -> u64;
-    fn perillajamb_first_active(state: u64, total: u32, table: *const u8, table_len: usize, scratch: *mut u64, scratch_len: usize) -> u64;
+    fn perillajamb_slots_get(
+        state: u64,
+        total: u32,
+        table: *const u8,
+        table_len: usize,
+        scratch: *mut u64,
+        scratch_len: usize,
+    ) -> u64;
+    fn perillajamb_first_active(
+        state: u64,
+        total: u32,
+        table: *const u8,
+        table_len: usize,
+        scratch: *mut u64,
+        scratch_len: usize,
+    ) -> u64;
     fn perillajamb_location_state(key: u64, location: u32) -> u64;
 }
 
@@ -70,6 +218,16 @@ pub fn layer_apply(key: u64, layer: u32, x: u32) -> u64 {
 #[inline]
 pub fn layer_xors(key: u64, layer: u32, n: u32) -> u64 {
     unsafe { perillajamb_layer_xors(key, layer, n) }
+}
+
+#[inline]
+pub fn layer_invert(key: u64, layer: u32, y: u32) -> u64 {
+    unsafe { perillajamb_layer_invert(key, layer, y) }
+}
+
+#[inline]
+pub fn input_xors(key: u64, layer: u32, n: u32) -> u64 {
+    unsafe { perillajamb_input_xors(key, layer, n) }
 }
 
 #[inline]
@@ -119,22 +277,53 @@ pub fn chooser_new(state: u64, n: u64, words: &mut [u64]) -> u64 {
 
 #[inline]
 pub fn chooser_new_with_k(state: u64, k: u64, n: u64, words: &mut [u64], list: &mut [u64]) -> u64 {
-    unsafe { perillajamb_chooser_new_with_k(state, k, n, words.as_mut_ptr(), words.len(), list.as_mut_ptr(), list.len()) }
+    unsafe {
+        perillajamb_chooser_new_with_k(
+            state,
+            k,
+            n,
+            words.as_mut_ptr(),
+            words.len(),
+            list.as_mut_ptr(),
+            list.len(),
+        )
+    }
 }
 
 #[inline]
 pub fn chooser_grow_k(words: &mut [u64], list: &mut [u64]) -> u64 {
-    unsafe { perillajamb_chooser_grow_k(words.as_mut_ptr(), words.len(), list.as_mut_ptr(), list.len()) }
+    unsafe {
+        perillajamb_chooser_grow_k(
+            words.as_mut_ptr(),
+            words.len(),
+            list.as_mut_ptr(),
+            list.len(),
+        )
+    }
 }
 
 #[inline]
 pub fn chooser_next(words: &mut [u64], list: &mut [u64]) -> u64 {
-    unsafe { perillajamb_chooser_next(words.as_mut_ptr(), words.len(), list.as_mut_ptr(), list.len()) }
+    unsafe {
+        perillajamb_chooser_next(
+            words.as_mut_ptr(),
+            words.len(),
+            list.as_mut_ptr(),
+            list.len(),
+        )
+    }
 }
 
 #[inline]
 pub fn chooser_shrink_n(words: &mut [u64], list: &mut [u64]) -> u64 {
-    unsafe { perillajamb_chooser_shrink_n(words.as_mut_ptr(), words.len(), list.as_mut_ptr(), list.len()) }
+    unsafe {
+        perillajamb_chooser_shrink_n(
+            words.as_mut_ptr(),
+            words.len(),
+            list.as_mut_ptr(),
+            list.len(),
+        )
+    }
 }
 
 #[inline]
@@ -153,28 +342,66 @@ pub fn order_next(ws: &mut [u32]) -> u64 {
 }
 
 #[inline]
+pub fn place(key: u64, n: u32, location: u32) -> u64 {
+    unsafe { perillajamb_place(key, n, location) }
+}
+
+#[inline]
 pub fn order_digest(key: u64, n: u32, count: u32) -> u64 {
     unsafe { perillajamb_order_digest(key, n, count) }
 }
 
 #[inline]
 pub fn reservoir_new(key: u64, k: u32, n: u32, words: &mut [u32], list: &mut [u32]) -> u64 {
-    unsafe { perillajamb_reservoir_new(key, k, n, words.as_mut_ptr(), words.len(), list.as_mut_ptr(), list.len()) }
+    unsafe {
+        perillajamb_reservoir_new(
+            key,
+            k,
+            n,
+            words.as_mut_ptr(),
+            words.len(),
+            list.as_mut_ptr(),
+            list.len(),
+        )
+    }
 }
 
 #[inline]
 pub fn reservoir_next(words: &mut [u32], list: &mut [u32]) -> u64 {
-    unsafe { perillajamb_reservoir_next(words.as_mut_ptr(), words.len(), list.as_mut_ptr(), list.len()) }
+    unsafe {
+        perillajamb_reservoir_next(
+            words.as_mut_ptr(),
+            words.len(),
+            list.as_mut_ptr(),
+            list.len(),
+        )
+    }
 }
 
 #[inline]
 pub fn reservoir_grow_layer(words: &mut [u32], list: &mut [u32]) -> u64 {
-    unsafe { perillajamb_reservoir_grow_layer(words.as_mut_ptr(), words.len(), list.as_mut_ptr(), list.len()) }
+    unsafe {
+        perillajamb_reservoir_grow_layer(
+            words.as_mut_ptr(),
+            words.len(),
+            list.as_mut_ptr(),
+            list.len(),
+        )
+    }
 }
 
 #[inline]
 pub fn reservoir_sample(words: &[u32], list: &[u32], out: &mut [u32]) -> u64 {
-    unsafe { perillajamb_reservoir_sample(words.as_ptr(), words.len(), list.as_ptr(), list.len(), out.as_mut_ptr(), out.len()) }
+    unsafe {
+        perillajamb_reservoir_sample(
+            words.as_ptr(),
+            words.len(),
+            list.as_ptr(),
+            list.len(),
+            out.as_mut_ptr(),
+            out.len(),
+        )
+    }
 }
 
 #[inline]
@@ -184,38 +411,138 @@ pub fn reservoir_fits(words: &[u32], list: &[u32]) -> u64 {
 
 #[inline]
 pub fn round_open(key: u64, k: u32, n: u32, words: &mut [u32], list: &mut [u32]) -> u64 {
-    unsafe { perillajamb_round_open(key, k, n, words.as_mut_ptr(), words.len(), list.as_mut_ptr(), list.len()) }
+    unsafe {
+        perillajamb_round_open(
+            key,
+            k,
+            n,
+            words.as_mut_ptr(),
+            words.len(),
+            list.as_mut_ptr(),
+            list.len(),
+        )
+    }
 }
 
 #[inline]
 pub fn round_admit(words: &mut [u32], list: &mut [u32], table: &[u8]) -> u64 {
-    unsafe { perillajamb_round_admit(words.as_mut_ptr(), words.len(), list.as_mut_ptr(), list.len(), table.as_ptr(), table.len()) }
+    unsafe {
+        perillajamb_round_admit(
+            words.as_mut_ptr(),
+            words.len(),
+            list.as_mut_ptr(),
+            list.len(),
+            table.as_ptr(),
+            table.len(),
+        )
+    }
 }
 
 #[inline]
 pub fn round_join(words: &mut [u32], list: &[u32], table: &mut [u8]) -> u64 {
-    unsafe { perillajamb_round_join(words.as_mut_ptr(), words.len(), list.as_ptr(), list.len(), table.as_mut_ptr(), table.len()) }
+    unsafe {
+        perillajamb_round_join(
+            words.as_mut_ptr(),
+            words.len(),
+            list.as_ptr(),
+            list.len(),
+            table.as_mut_ptr(),
+            table.len(),
+        )
+    }
 }
 
 #[inline]
 pub fn round_withdraw(slot: u32, words: &mut [u32], list: &[u32], table: &mut [u8]) -> u64 {
-    unsafe { perillajamb_round_withdraw(slot, words.as_mut_ptr(), words.len(), list.as_ptr(), list.len(), table.as_mut_ptr(), table.len()) }
+    unsafe {
+        perillajamb_round_withdraw(
+            slot,
+            words.as_mut_ptr(),
+            words.len(),
+            list.as_ptr(),
+            list.len(),
+            table.as_mut_ptr(),
+            table.len(),
+        )
+    }
 }
 
 #[inline]
-pub fn round_plan(words: &[u32], list: &[u32], table: &[u8], locations: &mut [u32], terminals: &mut [u32], scratch: &mut [u64]) -> u64 {
-    unsafe { perillajamb_round_plan(words.as_ptr(), words.len(), list.as_ptr(), list.len(), table.as_ptr(), table.len(), locations.as_mut_ptr(), locations.len(), terminals.as_mut_ptr(), terminals.len(), scratch.as_mut_ptr(), scratch.len()) }
+pub fn round_plan(
+    words: &[u32],
+    list: &[u32],
+    table: &[u8],
+    locations: &mut [u32],
+    terminals: &mut [u32],
+    scratch: &mut [u64],
+) -> u64 {
+    unsafe {
+        perillajamb_round_plan(
+            words.as_ptr(),
+            words.len(),
+            list.as_ptr(),
+            list.len(),
+            table.as_ptr(),
+            table.len(),
+            locations.as_mut_ptr(),
+            locations.len(),
+            terminals.as_mut_ptr(),
+            terminals.len(),
+            scratch.as_mut_ptr(),
+            scratch.len(),
+        )
+    }
 }
 
 #[inline]
 pub fn round_fits(words: &[u32], list: &[u32], table: &[u8]) -> u64 {
-    unsafe { perillajamb_round_fits(words.as_ptr(), words.len(), list.as_ptr(), list.len(), table.as_ptr(), table.len()) }
+    unsafe {
+        perillajamb_round_fits(
+            words.as_ptr(),
+            words.len(),
+            list.as_ptr(),
+            list.len(),
+            table.as_ptr(),
+            table.len(),
+        )
+    }
 }
 
 #[allow(clippy::too_many_arguments)]
 #[inline]
-pub fn round_replay(key: u64, k: u32, n: u32, calls: &[u64], list: &mut [u32], table: &mut [u8], answers: &mut [u32], locations: &mut [u32], terminals: &mut [u32], scratch: &mut [u64]) -> u64 {
-    unsafe { perillajamb_round_replay(key, k, n, calls.as_ptr(), calls.len(), list.as_mut_ptr(), list.len(), table.as_mut_ptr(), table.len(), answers.as_mut_ptr(), answers.len(), locations.as_mut_ptr(), locations.len(), terminals.as_mut_ptr(), terminals.len(), scratch.as_mut_ptr(), scratch.len()) }
+pub fn round_replay(
+    key: u64,
+    k: u32,
+    n: u32,
+    calls: &[u64],
+    list: &mut [u32],
+    table: &mut [u8],
+    answers: &mut [u32],
+    locations: &mut [u32],
+    terminals: &mut [u32],
+    scratch: &mut [u64],
+) -> u64 {
+    unsafe {
+        perillajamb_round_replay(
+            key,
+            k,
+            n,
+            calls.as_ptr(),
+            calls.len(),
+            list.as_mut_ptr(),
+            list.len(),
+            table.as_mut_ptr(),
+            table.len(),
+            answers.as_mut_ptr(),
+            answers.len(),
+            locations.as_mut_ptr(),
+            locations.len(),
+            terminals.as_mut_ptr(),
+            terminals.len(),
+            scratch.as_mut_ptr(),
+            scratch.len(),
+        )
+    }
 }
 
 #[inline]
@@ -250,12 +577,30 @@ pub fn slots_fits(total: u32, table: &[u8]) -> u64 {
 
 #[inline]
 pub fn slots_get(state: u64, total: u32, table: &[u8], scratch: &mut [u64]) -> u64 {
-    unsafe { perillajamb_slots_get(state, total, table.as_ptr(), table.len(), scratch.as_mut_ptr(), scratch.len()) }
+    unsafe {
+        perillajamb_slots_get(
+            state,
+            total,
+            table.as_ptr(),
+            table.len(),
+            scratch.as_mut_ptr(),
+            scratch.len(),
+        )
+    }
 }
 
 #[inline]
 pub fn first_active(state: u64, total: u32, table: &[u8], scratch: &mut [u64]) -> u64 {
-    unsafe { perillajamb_first_active(state, total, table.as_ptr(), table.len(), scratch.as_mut_ptr(), scratch.len()) }
+    unsafe {
+        perillajamb_first_active(
+            state,
+            total,
+            table.as_ptr(),
+            table.len(),
+            scratch.as_mut_ptr(),
+            scratch.len(),
+        )
+    }
 }
 
 #[inline]

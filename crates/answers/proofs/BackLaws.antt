@@ -4,7 +4,7 @@ use Rattle.std.proofs.Common.{◌≡◌, ℕ, cond, eqb, Result, Ok, Err, Option
 use Rattle.std.proofs.Math.Option as maybe
 use Rattle.answers.specs.Answers.{Answer, refusal, result}
 use Rattle.answers.specs.declared.Refusal.{Refusal}
-use Rattle.answers.specs.declared.Refusal.TheVariants.{NAboveLimit, KIsZero, KAboveN, ShortMemory, CannotShrink, AllChosen, NumbersWait, TopLayer, NoSlotLeft, SlotNotActive, NoneActive, Misfit}
+use Rattle.answers.specs.declared.Refusal.TheVariants.{NAboveLimit, KIsZero, KAboveN, ShortMemory, CannotShrink, AllChosen, NumbersWait, TopLayer, NoSlotLeft, SlotNotActive, NoneActive, Misfit, LocationNotBelowN}
 use Rattle.answers.specs.Refusals.{number, answer_of, optional, answer_of_option}
 
 pub answer_ok : {A : Type 0} (r : Result A Refusal) (x : A) → answer_of r ≡ result x → r ≡ Ok x
@@ -34,7 +34,8 @@ refusal_of n =
     (cond (eqb n 8) TopLayer
     (cond (eqb n 9) NoSlotLeft
     (cond (eqb n 10) SlotNotActive
-    (cond (eqb n 11) NoneActive Misfit))))))))))
+    (cond (eqb n 11) NoneActive
+    (cond (eqb n 12) Misfit LocationNotBelowN)))))))))))
 
 pub refusal_back : (w : Refusal) → refusal_of (number w) ≡ w
 unfolding refusal_of
@@ -50,6 +51,7 @@ refusal_back NoSlotLeft = refl
 refusal_back SlotNotActive = refl
 refusal_back NoneActive = refl
 refusal_back Misfit = refl
+refusal_back LocationNotBelowN = refl
 
 unfoldable pub back : {A : Type 0} → Answer A → Result A Refusal
 back (result x) = Ok x

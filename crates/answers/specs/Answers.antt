@@ -3,7 +3,8 @@
 -- Assumes nothing.
 use Rattle.std.specs.Prelude.{Bool, true, false, ℕ}
 
--- Demand 1: "The answer to each public call, for every input, is a result or one of document 01's twelve refusals."
+-- Demand 1: "The answer to each public call, for every input, is a result or one of document 01's twelve refusals." Document 02 adds
+-- more, which count "as if 01 said it".
 pub data Answer (A : Type 0) : Type 0 where
   refusal : ℕ → Answer A
   result : A → Answer A

@@ -1,10 +1,10 @@
--- The twelve refusals of document 01, "By whom a refusal comes", and what a call that may be refused answers.
+-- The refusals of document 01, "By whom a refusal comes", and those that document 02 adds; and what a call that may be refused answers.
 -- Assumes nothing.
 use Rattle.std.specs.Prelude.{ℕ, Option, Some, None, Result, Ok, Err}
 use Rattle.std.proofs.Math.Option as maybe
 use Rattle.answers.specs.Answers.{Answer, refusal, result, map_answer}
 use Rattle.answers.specs.declared.Refusal.{Refusal}
-use Rattle.answers.specs.declared.Refusal.TheVariants.{NAboveLimit, KIsZero, KAboveN, ShortMemory, CannotShrink, AllChosen, NumbersWait, TopLayer, NoSlotLeft, SlotNotActive, NoneActive, Misfit}
+use Rattle.answers.specs.declared.Refusal.TheVariants.{NAboveLimit, KIsZero, KAboveN, ShortMemory, CannotShrink, AllChosen, NumbersWait, TopLayer, NoSlotLeft, SlotNotActive, NoneActive, Misfit, LocationNotBelowN}
 
 -- each with its number
 abbrev pub number : Refusal → ℕ
@@ -32,6 +32,8 @@ number SlotNotActive = 10
 number NoneActive = 11
 -- "a record against its memory .."; "a program line of no known form"
 number Misfit = 12
+-- 02, §1: "13, the location isn't below n"
+number LocationNotBelowN = 13
 
 -- what a call answers: its refusal's number, or its result
 abbrev pub answer_of : {A : Type 0} → Result A Refusal → Answer A

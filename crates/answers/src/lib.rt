@@ -1,4 +1,4 @@
-// Why a call is refused: the twelve refusals of document 01, with its numbers.
+// Why a call is refused: the refusals of the documents, with their numbers.
 #![tactic(auto)]
 
 ghost use Rattle.std.specs.Prelude.{◌≡◌};
@@ -10,7 +10,7 @@ ghost use Rattle.answers.specs.Making.{by_sizes, short_refusal};
 use std::error::Error;
 use std::fmt;
 
-// One of them, in the order of their numbers, 1 to 12.
+// One of them, in the order of their numbers: 1 to 12 are document 01's, 13 document 02's.
 #[derive(Clone, Copy, Debug, PartialEq, Eq, Hash)]
 pub enum Refusal {
     NAboveLimit,
@@ -25,10 +25,11 @@ pub enum Refusal {
     SlotNotActive,
     NoneActive,
     Misfit,
+    LocationNotBelowN,
 }
 
 impl Refusal {
-    // Document 01's number.
+    // The documents' number.
     pub fn number(self) -> u32
         ensures { result ≡ number self }
     {
@@ -45,6 +46,7 @@ impl Refusal {
             Refusal::SlotNotActive => 10,
             Refusal::NoneActive => 11,
             Refusal::Misfit => 12,
+            Refusal::LocationNotBelowN => 13,
         }
     }
 }
@@ -90,6 +92,7 @@ impl fmt::Display for Refusal {
             Refusal::SlotNotActive => "the slot is not active",
             Refusal::NoneActive => "no slot is active",
             Refusal::Misfit => "the record does not fit its memory, or the input has no known form",
+            Refusal::LocationNotBelowN => "the location is not below n",
         })
     }
 }

@@ -23,8 +23,8 @@ use Rattle.choosers.specs.declared.choose_k.ConsistentChooseKHasher.{ConsistentC
 use Rattle.choosers.specs.Choosers.{largest_g, S, Moved, moved, grow, shrink}
 use Rattle.choosers.specs.ChooserCalls.{samples_of, chooser_of, fitting, tested, grown_by, grow_call, next_call, counts_from, shrink_call, Chooses, Consistent, ConsistentNext, chooser_state, ChooserState}
 use Rattle.choosers.proofs.SampleLaws.{length_S}
-use Rattle.choosers.proofs.LoweringLaws.{place, place_le, grow_gives, shrink_gives, last_S, S_open}
-use Rattle.choosers.proofs.PlaceLaws.{new, new_lt, new_fresh, new_lacked, place_new, S_insert}
+use Rattle.choosers.proofs.LoweringLaws.{enters_at, enters_le, grow_gives, shrink_gives, last_S, S_open}
+use Rattle.choosers.proofs.EntryLaws.{new, new_lt, new_fresh, new_lacked, enters_new, S_insert}
 use Rattle.choosers.proofs.CheckLaws.{Parts, fits_parts}
 use Rattle.choosers.proofs.CountLaws.{counts_yes}
 
@@ -66,7 +66,7 @@ module _ (c : ConsistentChooseKHasher) (l : List ℕ) where
     less : c.k < c.n
     less = omega (arith, p.few, more)
 
-    grown : grow c.state (samples_of c l) c.n ≡ moved (S c.state (suc c.k) c.n) (place c.state c.k c.n)
+    grown : grow c.state (samples_of c l) c.n ≡ moved (S c.state (suc c.k) c.n) (enters_at c.state c.k c.n)
     grown = ap (λ (xs : List ℕ). grow c.state xs c.n) h ∙ grow_gives c.state c.k c.n less
 
     samples_are : (grow c.state (samples_of c l) c.n).samples ≡ S c.state (suc c.k) c.n
@@ -81,12 +81,12 @@ module _ (c : ConsistentChooseKHasher) (l : List ℕ) where
     came_in = rw (add-one, h) (new_lacked c.state c.k c.n less)
 
     at_index : get_or (grow c.state (samples_of c l) c.n).samples (grow c.state (samples_of c l) c.n).index 0 ≡ new c.state c.k c.n
-    at_index = rw grown (place_new c.state c.k c.n less)
+    at_index = rw grown (enters_new c.state c.k c.n less)
 
     in_list : get_or (written (grow c.state (samples_of c l) c.n).samples l) (grow c.state (samples_of c l) c.n).index 0 ≡ new c.state c.k c.n
     in_list =
         written_at (grow c.state (samples_of c l) c.n).index (grow c.state (samples_of c l) c.n).samples l
-        (rw grown (omega (arith, length_S c.state (suc c.k) c.n, place_le c.state c.k c.n)))
+        (rw grown (omega (arith, length_S c.state (suc c.k) c.n, enters_le c.state c.k c.n)))
         ∙ at_index
 
   grown_keeps : Parts c l → c.k ≢ c.n → (m : Moved) → m ≡ grow c.state (samples_of c l) c.n → Consistent c l (grown_by c l m m.index)
@@ -150,7 +150,7 @@ module _ (c : ConsistentChooseKHasher) (l : List ℕ) where
         (λ q. q)
         (λ q. absurd (true≢false (sym (counts_yes (samples_of c l) c.n p.rising (omega (arith, last_is, length-take-le c.k l p.within, size))) ∙ not_first)))
 
-    shrunk : shrink c.state (samples_of c l) ≡ moved (S c.state (suc j) b) (place c.state j b)
+    shrunk : shrink c.state (samples_of c l) ≡ moved (S c.state (suc j) b) (enters_at c.state j b)
     unfolding b
     shrunk = ap (shrink c.state) samples_S ∙ shrink_gives c.state j c.n high
 
@@ -160,14 +160,14 @@ module _ (c : ConsistentChooseKHasher) (l : List ℕ) where
     shrunk_at : get_or (written (shrink c.state (samples_of c l)).samples l) (shrink c.state (samples_of c l)).index 0 ≡ new c.state j b
     shrunk_at =
         rw shrunk
-        (written_at (place c.state j b) (S c.state (suc j) b) l (omega (arith, length_S c.state (suc j) b, place_le c.state j b))
-        ∙ place_new c.state j b high)
+        (written_at (enters_at c.state j b) (S c.state (suc j) b) l (omega (arith, length_S c.state (suc j) b, enters_le c.state j b))
+        ∙ enters_new c.state j b high)
 
     shrunk_lacked : lacked (S c.state (suc j) b) (samples_of c l) ≡ new c.state j b
     unfolding b
     shrunk_lacked =
         rw (samples_S, S_open c.state j c.n, S_insert c.state j b high)
-        (lacked_insert_at (S c.state j b) (S c.state j b ++ (b ∷ [])) (place c.state j b) (new c.state j b)
+        (lacked_insert_at (S c.state j b) (S c.state j b ++ (b ∷ [])) (enters_at c.state j b) (new c.state j b)
         (λ v q. omega (arith, occurrences_append v (S c.state j b) (b ∷ [])))
         (occurrences_append (new c.state j b) (S c.state j b) (b ∷ [])
         ∙ rw (same_no b (new c.state j b) (λ q. omega (arith, q, new_lt c.state j b high))) (omega (arith, new_fresh c.state j b high))))

@@ -15,7 +15,7 @@ use Rattle.lists.proofs.Tests.{by_below, by_same}
 use Rattle.lists.proofs.Writing.{map_set, set_holds}
 use Rattle.choosers.specs.Choosers.{g, Moved, moved, larger, lower_at, lower, grow}
 use Rattle.choosers.specs.InnerChoosers.{grow_in}
-use Rattle.choosers.specs.InnerPlaces.{Kept, Rises, Under}
+use Rattle.choosers.specs.InnerHolding.{Kept, Rises, Under}
 use Rattle.choosers.proofs.SampleLaws.{g_lt, g_ge, g_same}
 use Rattle.choosers.proofs.TurnLaws.{turn_on, larger_first, larger_later, lower_take, grow_first, grow_end, grow_mid}
 

@@ -1,6 +1,6 @@
 pub mod SampleLaws
 pub mod LoweringLaws
-pub mod PlaceLaws
+pub mod EntryLaws
 pub mod OrderLaws
 pub mod TurnLaws
 pub mod CheckLaws

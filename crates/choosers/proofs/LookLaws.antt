@@ -15,10 +15,10 @@ use Rattle.lists.specs.Lists.{find}
 use Rattle.lists.proofs.Finding.{find_next, find_hit, find_over}
 use Rattle.choosers.specs.Choosers.{S, Q, Moved, moved}
 use Rattle.choosers.specs.InnerChoosers.{grow_in}
-use Rattle.choosers.specs.InnerPlaces.{low, lows, Stands}
+use Rattle.choosers.specs.InnerHolding.{low, lows, Stands}
 use Rattle.choosers.proofs.SampleLaws.{length_S}
-use Rattle.choosers.proofs.LoweringLaws.{place, place_le, grow_gives}
-use Rattle.choosers.proofs.PlaceLaws.{place_new}
+use Rattle.choosers.proofs.LoweringLaws.{enters_at, enters_le, grow_gives}
+use Rattle.choosers.proofs.EntryLaws.{enters_new}
 use Rattle.choosers.proofs.OrderLaws.{length_Q, Q_at}
 
 -- ---- grow from S(k, n) in the first places
@@ -26,26 +26,26 @@ use Rattle.choosers.proofs.OrderLaws.{length_Q, Q_at}
 -- the list after it and the index that it answers: S(k+1, n), and in it the next number of Q(n)
 pub record Grown (s k n : ℕ) (next : List ℕ) (i : ℕ) : Type 0 where
   pub samples : take (k + 1) next ≡ S s (k + 1) n
-  pub place_in : i ≤ k
+  pub enters_in : i ≤ k
   pub number : get_or next i 0 ≡ get_or (Q s n) k 0
 
 module _ (s k n : ℕ) (l : List ℕ) (h : k < n) (e : take k l ≡ S s k n) where
-  grow_is : grow_in s k l n ≡ moved (S s (suc k) n ++ drop (suc k) l) (place s k n)
+  grow_is : grow_in s k l n ≡ moved (S s (suc k) n ++ drop (suc k) l) (enters_at s k n)
   unfolding grow_in
   grow_is = rw (e, grow_gives s k n h)
 
-  number_is : get_or (S s (suc k) n ++ drop (suc k) l) (place s k n) 0 ≡ get_or (Q s n) k 0
+  number_is : get_or (S s (suc k) n ++ drop (suc k) l) (enters_at s k n) 0 ≡ get_or (Q s n) k 0
   number_is =
-      let f : place s k n < length (S s (suc k) n) = omega (arith, length_S s (suc k) n, place_le s k n) in
-      rw (get_or-append (S s (suc k) n) (drop (suc k) l) 0 (place s k n) f, Q_at s n k h) (place_new s k n h)
+      let f : enters_at s k n < length (S s (suc k) n) = omega (arith, length_S s (suc k) n, enters_le s k n) in
+      rw (get_or-append (S s (suc k) n) (drop (suc k) l) 0 (enters_at s k n) f, Q_at s n k h) (enters_new s k n h)
 
   pub grow_next : (next : List ℕ) (i : ℕ) → moved next i ≡ grow_in s k l n → Grown s k n next i
   grow_next next i is =
       let list : next ≡ S s (suc k) n ++ drop (suc k) l = ap (λ (z : Moved). z.samples) (is ∙ grow_is) in
-      let index : i ≡ place s k n = ap (λ (z : Moved). z.index) (is ∙ grow_is) in
+      let index : i ≡ enters_at s k n = ap (λ (z : Moved). z.index) (is ∙ grow_is) in
       record {
         samples = rw (add-one, list) (take_at (S s (suc k) n) (drop (suc k) l) (suc k) (length_S s (suc k) n));
-        place_in = omega (arith, index, place_le s k n);
+        enters_in = omega (arith, index, enters_le s k n);
         number = rw (list, index) number_is;
       }
 

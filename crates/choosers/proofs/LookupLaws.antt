@@ -7,7 +7,7 @@ use native.Mathlib.Omega.{arith}
 use lib.ListN.{get_or, take}
 use lib.Seq.{get_or-take}
 use Rattle.choosers.specs.Choosers.{g, S}
-use Rattle.choosers.specs.InnerPlaces.{Beside, lows, Rises}
+use Rattle.choosers.specs.InnerHolding.{Beside, lows, Rises}
 use Rattle.choosers.proofs.SampleLaws.{g_same, length_S, S_ascending}
 
 module _ (s : ℕ) where

@@ -17,9 +17,9 @@ use Rattle.choosers.specs.Choosers.{g, largest_g, S, moved, larger, lower_at, lo
 use Rattle.choosers.proofs.SampleLaws.{g_top, g_lt, g_ge, length_S, S_same}
 
 -- where the new member of S(k+1, n) stands: at the end where g(k, n) is above all of S(k, n), else where S(k, last) has it
-unfoldable pub place : ℕ → ℕ → ℕ → ℕ
-place s zero n = 0
-place s (suc k) n = cond (ltb (largest_g s (suc k) n) (g s (suc k) n)) (suc k) (place s k (largest_g s (suc k) n))
+unfoldable pub enters_at : ℕ → ℕ → ℕ → ℕ
+enters_at s zero n = 0
+enters_at s (suc k) n = cond (ltb (largest_g s (suc k) n) (g s (suc k) n)) (suc k) (enters_at s k (largest_g s (suc k) n))
 
 module _ (s : ℕ) where
   -- ---- one turn of lower, on a list whose sample at index i is b
@@ -69,30 +69,30 @@ module _ (s : ℕ) where
   unfolding S largest_g
   S_mid k n p = rw (max-eq_left {n = largest_g s k n} {m = g s k n} p)
 
-  pub place_end : (k n : ℕ) → largest_g s (suc k) n < g s (suc k) n → place s (suc k) n ≡ suc k
-  unfolding place
-  place_end k n p = rw (lt-ltb (largest_g s (suc k) n) (g s (suc k) n) p)
+  pub enters_end : (k n : ℕ) → largest_g s (suc k) n < g s (suc k) n → enters_at s (suc k) n ≡ suc k
+  unfolding enters_at
+  enters_end k n p = rw (lt-ltb (largest_g s (suc k) n) (g s (suc k) n) p)
 
-  pub place_mid : (k n : ℕ) → g s (suc k) n ≤ largest_g s (suc k) n → place s (suc k) n ≡ place s k (largest_g s (suc k) n)
-  unfolding place
-  place_mid k n p = rw (le-ltb (largest_g s (suc k) n) (g s (suc k) n) p)
+  pub enters_mid : (k n : ℕ) → g s (suc k) n ≤ largest_g s (suc k) n → enters_at s (suc k) n ≡ enters_at s k (largest_g s (suc k) n)
+  unfolding enters_at
+  enters_mid k n p = rw (le-ltb (largest_g s (suc k) n) (g s (suc k) n) p)
 
-  pub place_le : (k n : ℕ) → place s k n ≤ k
-  unfolding place
-  place_le zero n = omega arith
-  place_le (suc k) n =
+  pub enters_le : (k n : ℕ) → enters_at s k n ≤ k
+  unfolding enters_at
+  enters_le zero n = omega arith
+  enters_le (suc k) n =
       by_below (largest_g s (suc k) n) (g s (suc k) n)
       (λ p. rw (lt-ltb (largest_g s (suc k) n) (g s (suc k) n) p) (omega arith))
-      (λ p. rw (le-ltb (largest_g s (suc k) n) (g s (suc k) n) p) (omega (arith, place_le k (largest_g s (suc k) n))))
+      (λ p. rw (le-ltb (largest_g s (suc k) n) (g s (suc k) n) p) (omega (arith, enters_le k (largest_g s (suc k) n))))
 
   -- ---- lower, from a sample b that is not below m, over S(k, m): the new list is S(k+1, m)
 
-  lowered_zero : (m b : ℕ) (rest : List ℕ) → m ≤ b → lower_at s 1 (S s 0 m ++ b ∷ rest) m ≡ moved (S s 1 m ++ rest) (place s 0 m)
-  unfolding lower_at larger place S largest_g
+  lowered_zero : (m b : ℕ) (rest : List ℕ) → m ≤ b → lower_at s 1 (S s 0 m ++ b ∷ rest) m ≡ moved (S s 1 m ++ rest) (enters_at s 0 m)
+  unfolding lower_at larger enters_at S largest_g
   lowered_zero m b rest e = rw (le-ltb b m e, zero-max)
 
   pub lowered : (k m b : ℕ) (rest : List ℕ) → k < m → m ≤ b
-      → lower_at s (suc k) (S s k m ++ b ∷ rest) m ≡ moved (S s (suc k) m ++ rest) (place s k m)
+      → lower_at s (suc k) (S s k m ++ b ∷ rest) m ≡ moved (S s (suc k) m ++ rest) (enters_at s k m)
   lowered zero m b rest h e = lowered_zero m b rest e
   lowered (suc j) m b rest h e =
       lower_on (suc j) (S s (suc j) m) rest b m (length_S s (suc j) m) e
@@ -100,7 +100,7 @@ module _ (s : ℕ) where
       (by_below (largest_g s (suc j) m) (g s (suc j) m)
       (λ p. rw (
         max-eq_right {n = largest_g s (suc j) m} {m = g s (suc j) m} (omega arith),
-        place_end j m p,
+        enters_end j m p,
         S_end (suc j) m h p,
         append_snoc (S s (suc j) m) (g s (suc j) m) rest,
         S_front j m (g s (suc j) m ∷ rest),
@@ -108,7 +108,7 @@ module _ (s : ℕ) where
       (lower_stop j (S s j (largest_g s (suc j) m)) (g s (suc j) m ∷ rest) (largest_g s (suc j) m) (g s (suc j) m) (length_S s j (largest_g s (suc j) m)) p))
       (λ p. rw (
         max-eq_left {n = largest_g s (suc j) m} {m = g s (suc j) m} p,
-        place_mid j m p,
+        enters_mid j m p,
         S_mid (suc j) m p,
         append_snoc (S s (suc j) (largest_g s (suc j) m)) (largest_g s (suc j) m) rest,
         S_front j m (largest_g s (suc j) m ∷ rest),
@@ -118,31 +118,31 @@ module _ (s : ℕ) where
   -- ---- shrink and grow from S(k, n)
 
   -- lowered from the last sample
-  lower_last : (j n : ℕ) → j < largest_g s (suc j) n → lower s (S s (suc j) n) (largest_g s (suc j) n) ≡ moved (S s (suc j) (largest_g s (suc j) n)) (place s j (largest_g s (suc j) n))
+  lower_last : (j n : ℕ) → j < largest_g s (suc j) n → lower s (S s (suc j) n) (largest_g s (suc j) n) ≡ moved (S s (suc j) (largest_g s (suc j) n)) (enters_at s j (largest_g s (suc j) n))
   unfolding lower
   lower_last j n h =
       let b : ℕ = largest_g s (suc j) n in
-      let r : lower_at s (suc j) (S s j b ++ (b ∷ [])) b ≡ moved (S s (suc j) b ++ []) (place s j b) = lowered j b b [] h (omega arith) in
+      let r : lower_at s (suc j) (S s j b ++ (b ∷ [])) b ≡ moved (S s (suc j) b ++ []) (enters_at s j b) = lowered j b b [] h (omega arith) in
       rw (length_S s (suc j) n, S_open j n) (rw append-nil at r)
 
-  pub shrink_gives : (j n : ℕ) → j < largest_g s (suc j) n → shrink s (S s (suc j) n) ≡ moved (S s (suc j) (largest_g s (suc j) n)) (place s j (largest_g s (suc j) n))
+  pub shrink_gives : (j n : ℕ) → j < largest_g s (suc j) n → shrink s (S s (suc j) n) ≡ moved (S s (suc j) (largest_g s (suc j) n)) (enters_at s j (largest_g s (suc j) n))
   unfolding shrink
   shrink_gives j n h = rw (last_S j n) (lower_last j n h)
 
-  grow_zero : (n : ℕ) → grow s (S s 0 n) n ≡ moved (S s 1 n) (place s 0 n)
-  unfolding grow S largest_g place
+  grow_zero : (n : ℕ) → grow s (S s 0 n) n ≡ moved (S s 1 n) (enters_at s 0 n)
+  unfolding grow S largest_g enters_at
   grow_zero n = rw zero-max
 
-  pub grow_gives : (k n : ℕ) → k < n → grow s (S s k n) n ≡ moved (S s (suc k) n) (place s k n)
+  pub grow_gives : (k n : ℕ) → k < n → grow s (S s k n) n ≡ moved (S s (suc k) n) (enters_at s k n)
   unfolding grow
   grow_gives zero n h = grow_zero n
   grow_gives (suc j) n h =
       rw (length_S s (suc j) n, last_S j n, eqb-suc-zero j)
       (by_below (largest_g s (suc j) n) (g s (suc j) n)
-      (λ p. rw (lt-ltb (largest_g s (suc j) n) (g s (suc j) n) p, place_end j n p, S_end (suc j) n h p))
+      (λ p. rw (lt-ltb (largest_g s (suc j) n) (g s (suc j) n) p, enters_end j n p, S_end (suc j) n h p))
       (λ p. rw (
         le-ltb (largest_g s (suc j) n) (g s (suc j) n) p,
-        place_mid j n p,
+        enters_mid j n p,
         S_mid (suc j) n p,
         lower_last j n (omega (arith, g_ge s (suc j) n)),
       )))

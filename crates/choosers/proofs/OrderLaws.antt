@@ -17,7 +17,7 @@ use Rattle.lists.proofs.Inserting.{insert_at, insert_at_snoc, insert_at_end, kee
 use Rattle.lists.proofs.Listing.{listing_snoc, listing_at}
 use Rattle.choosers.specs.Choosers.{g, largest_g, Q}
 use Rattle.choosers.proofs.SampleLaws.{g_lt, g_ge, g_same, top_below}
-use Rattle.choosers.proofs.PlaceLaws.{new, new_end, new_mid, new_lt, new_same, Q_new}
+use Rattle.choosers.proofs.EntryLaws.{new, new_end, new_mid, new_lt, new_same, Q_new}
 
 -- the first k numbers of Q(n)
 unfoldable firsts : ℕ → ℕ → ℕ → List ℕ

@@ -6,4 +6,4 @@ pub mod SlotCalls
 pub mod RefusedBy
 pub mod InnerChoosers
 pub mod InnerSlots
-pub mod InnerPlaces
+pub mod InnerHolding

@@ -1,28 +1,28 @@
 // The numbers of a choice order, for a lookup.
 ghost use Rattle.std.specs.Prelude.{◌≡◌, ◌+◌, ◌-◌, ◌*◌, ◌^◌, ◌<◌, ◌≤◌, length, get_or};
 ghost use Rattle.choosers.specs.Choosers.{Q};
-ghost use Rattle.choosers.specs.InnerPlaces.{low, Beside, Stands};
+ghost use Rattle.choosers.specs.InnerHolding.{low, Beside, Stands};
 
 use crate::samples;
-use crate::samples::Places;
+use crate::samples::Holding;
 
 // A place holds a sample in its low half and, in its high half, its sequence's own value below that sample or at it, so that prev is
 // asked only where that value is used up.
 pub(crate) struct WithOwn;
 
-impl Places for WithOwn {
+impl Holding for WithOwn {
     ghost sample = { low };
 
     ghost keeps = { Beside };
 
     ghost limit = { 2 ^ 32 };
 
-    fn sample(place: u64) -> u64 {
-        place % 0x1_0000_0000
+    fn sample(held: u64) -> u64 {
+        held % 0x1_0000_0000
     }
 
-    fn own(state: u64, i: u64, place: u64, m: u64) -> u64 {
-        let v = place / 0x1_0000_0000;
+    fn own(state: u64, i: u64, held: u64, m: u64) -> u64 {
+        let v = held / 0x1_0000_0000;
         if v < m {
             v
         } else {
@@ -30,7 +30,7 @@ impl Places for WithOwn {
         }
     }
 
-    fn place(v: u64, b: u64) -> u64 {
+    fn hold(v: u64, b: u64) -> u64 {
         v * 0x1_0000_0000 + b
     }
 }

@@ -3,7 +3,7 @@ ghost use Rattle.std.specs.Prelude.{◌≡◌, ℕ, ◌+◌, ◌-◌, ◌^◌, �
 ghost use Rattle.choosers.specs.Choosers.{g, largest_g, S, moved, lower_at};
 ghost use Rattle.choosers.specs.ChooserCalls.{ascends};
 ghost use Rattle.choosers.specs.InnerChoosers.{grow_in, OwnOr, Owns};
-ghost use Rattle.choosers.specs.InnerPlaces.{Kept, Rises, Under};
+ghost use Rattle.choosers.specs.InnerHolding.{Kept, Rises, Under};
 
 use hashes::ConsistentHasher;
 
@@ -31,7 +31,7 @@ pub(crate) fn get_sample(state: u64, i: u64, n: u64) -> u64
 }
 
 // How a place holds a sample: alone, or with something of its sequence beside it.
-pub(crate) trait Places {
+pub(crate) trait Holding {
     // the sample of a place
     ghost sample: { ℕ → ℕ };
 
@@ -41,16 +41,16 @@ pub(crate) trait Places {
     // every sample is below it
     ghost limit: { ℕ };
 
-    fn sample(place: u64) -> u64
-        ensures { result ≡ sample place };
+    fn sample(held: u64) -> u64
+        ensures { result ≡ sample held };
 
     // g(i, m), for an m that the sample of place i is not below.
-    fn own(state: u64, i: u64, place: u64, m: u64) -> u64
-        requires { (i < m) × (m ≤ sample place) × (m ≤ limit) × keeps state i place }
+    fn own(state: u64, i: u64, held: u64, m: u64) -> u64
+        requires { (i < m) × (m ≤ sample held) × (m ≤ limit) × keeps state i held }
         ensures { result ≡ g state i m };
 
     // A place that holds the sample b, and keeps that its sequence's own value below b + 1 is v.
-    fn place(v: u64, b: u64) -> u64
+    fn hold(v: u64, b: u64) -> u64
         requires { (v ≤ b) × (b < limit) }
         ensures sample { sample result ≡ b }
         ensures keeps { (s i : ℕ) → v ≡ g s i (b + 1) → keeps s i result };
@@ -59,28 +59,28 @@ pub(crate) trait Places {
 // Samples alone, as a caller's list has them.
 pub(crate) struct Alone;
 
-impl Places for Alone {
+impl Holding for Alone {
     ghost sample = { λ e. e };
 
     ghost keeps = { λ s i e. Unit {0} };
 
     ghost limit = { 2 ^ 62 };
 
-    fn sample(place: u64) -> u64 {
-        place
+    fn sample(held: u64) -> u64 {
+        held
     }
 
-    fn own(state: u64, i: u64, _place: u64, m: u64) -> u64 {
+    fn own(state: u64, i: u64, _held: u64, m: u64) -> u64 {
         get_sample(state, i, m)
     }
 
-    fn place(_v: u64, b: u64) -> u64 {
+    fn hold(_v: u64, b: u64) -> u64 {
         b
     }
 }
 
 // Lowers the samples from m, and answers the index.
-pub(crate) fn lower<P: Places>(state: u64, list: &mut [u64], from: u64) -> usize
+pub(crate) fn lower<P: Holding>(state: u64, list: &mut [u64], from: u64) -> usize
     requires few { length list.old ≤ from }
     requires small { from ≤ P.limit }
     requires kept { Kept P.keeps state list.old (length list.old) }
@@ -91,23 +91,23 @@ pub(crate) fn lower<P: Places>(state: u64, list: &mut [u64], from: u64) -> usize
 {
     let mut m = from;
     for i in (0..list.len()).rev() {
-        let place = list[i];
-        if P::sample(place) < m {
+        let held = list[i];
+        if P::sample(held) < m {
             return i + 1;
         }
-        let v = P::own(state, i as u64, place, m);
+        let v = P::own(state, i as u64, held, m);
         m = if i == 0 {
             v
         } else {
             v.max(P::sample(list[i - 1]))
         };
-        list[i] = P::place(v, m);
+        list[i] = P::hold(v, m);
     }
     0
 }
 
 // One sample more, in the last place of the list, after those in the places before; and the index where it came in.
-pub(crate) fn grow<P: Places>(state: u64, n: u64, list: &mut [u64]) -> usize
+pub(crate) fn grow<P: Holding>(state: u64, n: u64, list: &mut [u64]) -> usize
     requires some { 0 < length list.old }
     requires few { length list.old ≤ n }
     requires small { (n ≤ P.limit) × (n ≤ 2 ^ 62) }
@@ -120,12 +120,12 @@ pub(crate) fn grow<P: Places>(state: u64, n: u64, list: &mut [u64]) -> usize
     let k = list.len() - 1;
     let v = get_sample(state, k as u64, n);
     if k == 0 || P::sample(list[k - 1]) < v {
-        list[k] = P::place(v, v);
+        list[k] = P::hold(v, v);
         return k;
     }
     let last = P::sample(list[k - 1]);
     let i = lower::<P>(state, &mut list[..k], last);
-    list[k] = P::place(v, last);
+    list[k] = P::hold(v, last);
     i
 }
 

@@ -23,7 +23,7 @@ use Rattle.choosers.specs.ChooserCalls as ChooserCalls
 use Rattle.choosers.specs.SlotCalls as SlotCalls
 use Rattle.choosers.specs.RefusedBy as lists
 use Rattle.choosers.proofs.RefusedLaws as choosers
-use Rattle.exports.specs.Coded.{layer_xors, truth, found_number, coded_number, falling_digest, rising_digest}
+use Rattle.exports.specs.Coded.{layer_xors, input_xors, truth, found_number, coded_number, falling_digest, rising_digest}
 use Rattle.exports.specs.Crossings.{words_list}
 use Rattle.answers.specs.Making.{short_refusal}
 use Rattle.exports.specs.Orders as Order
@@ -31,13 +31,17 @@ use Rattle.exports.specs.Reservoirs as Reservoir
 use Rattle.exports.specs.Chooser as Chooser
 use Rattle.exports.specs.Slots as Slots
 use Rattle.exports.proofs.TooFewLaws.{short_among, short_with_k, alone, made_refuses, read_refuses, called_refuses, fits_refuses}
-use Rattle.exports.specs.RefusedBy.{Crosses, said_else, said_by, layer_xors_refusals, hash_digest_refusals, order_digest_refusals, order_new_refusals, chooser_new_refusals, words_refusals, order_next_refusals, reservoir_next_refusals, reservoir_grow_layer_refusals, reservoir_sample_refusals, chooser_grow_refusals, chooser_next_refusals, chooser_shrink_refusals}
+use Rattle.exports.specs.RefusedBy.{Crosses, said_else, said_by, layer_xors_refusals, input_xors_refusals, hash_digest_refusals, order_digest_refusals, order_new_refusals, chooser_new_refusals, words_refusals, order_next_refusals, reservoir_next_refusals, reservoir_grow_layer_refusals, reservoir_sample_refusals, chooser_grow_refusals, chooser_next_refusals, chooser_shrink_refusals}
 
 -- ---- numbers alone
 
 pub layer_xors_refuses : (key j n : ℕ) → Among layer_xors_refusals (layer_xors key j n)
 unfolding layer_xors has same
 layer_xors_refuses key j n = by_cond (Among layer_xors_refusals) (leb j 14 && leb n (size j)) _ _ (λ is. tt) (λ no. refl)
+
+pub input_xors_refuses : (key j n : ℕ) → Among input_xors_refusals (input_xors key j n)
+unfolding input_xors has same
+input_xors_refuses key j n = by_cond (Among input_xors_refusals) (leb j 14 && leb n (size j)) _ _ (λ is. tt) (λ no. refl)
 
 limit_refuses : (ws : List ℕ) (n x : ℕ) → has 1 ws ≡ true → Among ws (limited n x)
 unfolding limited

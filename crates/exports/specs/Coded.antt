@@ -5,6 +5,7 @@ use Rattle.std.proofs.Math.Option.{Option, get_or}
 use Rattle.std.specs.Int.Bits.{bit_xor}
 use Rattle.answers.specs.Answers.{Answer, refusal, result}
 use Rattle.layers.specs.Layer.{size, layer}
+use Rattle.layers.specs.Inverses.{input_of}
 use Rattle.hashes.specs.Hashes.{feed}
 use Rattle.hashes.specs.Calls.{limited}
 use Rattle.hashes.specs.Walks.{hashes_below, hashes_from}
@@ -49,6 +50,10 @@ xors f (suc n) = bit_xor (xors f n) (f n)
 -- The outputs of a layer at 0..n, xored. 12: "a layer above 14, or a layer's input not below its size".
 unfoldable pub layer_xors : ℕ → ℕ → ℕ → Answer ℕ
 layer_xors key j n = cond (leb j 14 && leb n (size j)) (result (xors (layer j key) n)) (refusal 12)
+
+-- The inputs of a layer whose outputs are 0..n, xored. 12: "a layer above 14"; 02, §1: "if that isn't below the size".
+unfoldable pub input_xors : ℕ → ℕ → ℕ → Answer ℕ
+input_xors key j n = cond (leb j 14 && leb n (size j)) (result (xors (input_of j key) n)) (refusal 12)
 
 -- ---- hashes
 

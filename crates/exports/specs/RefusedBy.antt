@@ -27,6 +27,10 @@ said_by c ws t = said_else 4 c ws t
 abbrev pub layer_xors_refusals : List ℕ
 layer_xors_refusals = 12 ∷ []
 
+-- 12: "a layer above 14"; 02, §1: "12 if that isn't below the size"
+abbrev pub input_xors_refusals : List ℕ
+input_xors_refusals = 12 ∷ []
+
 -- 1: "n above .. 2^62 (hashes, choosers)"
 abbrev pub hash_digest_refusals : List ℕ
 hash_digest_refusals = 1 ∷ []

@@ -2,11 +2,10 @@
 -- Assumes nothing.
 use Rattle.std.specs.Prelude.{List, [], ◌∷◌, ℕ, ◌+◌, ◌*◌, ◌/◌, ◌%◌, ◌^◌, get_or}
 use Rattle.std.proofs.Math.Option.{Option, none, some}
-use Rattle.answers.specs.Answers.{Answer}
 use Rattle.answers.specs.Making.{short_refusal}
 use Rattle.orders.specs.declared.consistent_reservoir.ConsistentReservoir.{ConsistentReservoir}
 use Rattle.orders.specs.ReservoirCalls.{key_of, j_of, reservoir_of, ReservoirState, reservoir_state, fitting, open_call, admit_call, grow_layer_call, sample_call}
-use Rattle.exports.specs.Coded.{truth, coded_by}
+use Rattle.exports.specs.Coded.{truth}
 use Rattle.exports.specs.Crossings.{Crossed, WordsList, words_list, Layout, Lending, made, called, read_by, fits_by}
 
 -- the key's low and high 32 bits, k, n, the layer and the used length

@@ -13,12 +13,13 @@ pub mod slots;
 ghost use Rattle.std.specs.Prelude.{◌≡◌, ℕ, ◌≤◌};
 ghost use Rattle.words.specs.Words.{wrapping_mul, rotate_right, mix};
 ghost use Rattle.layers.specs.Calls.{layer_apply};
-ghost use Rattle.layers.specs.Layer.{layer};
+ghost use Rattle.layers.specs.Inverses.{input_of, layer_invert};
+ghost use Rattle.layers.specs.Layer.{size, layer};
 ghost use Rattle.layers.specs.KeyedLayers.{keyed_layer};
 ghost use Rattle.hashes.specs.Hashes.{feed};
 ghost use Rattle.hashes.specs.Calls.{prev_call, next_call};
 ghost use Rattle.hashes.specs.Walks.{fall, rise};
-ghost use Rattle.exports.specs.Coded.{xors, layer_xors, coded_hash, coded_number, falling_digest, rising_digest};
+ghost use Rattle.exports.specs.Coded.{xors, layer_xors, input_xors, coded_hash, coded_number, falling_digest, rising_digest};
 
 use answers::Refusal;
 use hashes::{ConsistentHashIterator, ConsistentHashRevIterator, ConsistentHasher};
@@ -66,6 +67,35 @@ pub fn perillajamb_layer_xors(key: u64, layer: u32, n: u32) -> u64
 {
     match KeyedLayer::new(layer, key) {
         Ok(f) if n <= f.size => xor_outputs(f, n),
+        Ok(_) => parts::refused(Refusal::Misfit),
+        Err(why) => parts::refused(why),
+    }
+}
+
+// The input of a layer whose output is y.
+pub fn perillajamb_layer_invert(key: u64, layer: u32, y: u32) -> u64
+    ensures { result ≡ coded_number (layer_invert layer key y) }
+{
+    parts::number(layers::layer_invert(layer, key, y))
+}
+
+// The xor of a layer's inputs for the outputs 0..n.
+fn xor_inputs(f: KeyedLayer, n: u32) -> u64
+    ensures { (j key : ℕ) → j ≤ 14 → f ≡ keyed_layer j key → n ≤ size j → result ≡ xors (input_of j key) n }
+{
+    let mut sum: u64 = 0;
+    for y in 0..n {
+        sum ^= u64::from(f.invert(y));
+    }
+    sum
+}
+
+// The same of one layer's inverse: the inputs for its outputs 0..n, xored, with the same refusal.
+pub fn perillajamb_input_xors(key: u64, layer: u32, n: u32) -> u64
+    ensures { result ≡ coded_number (input_xors key layer n) }
+{
+    match KeyedLayer::new(layer, key) {
+        Ok(f) if n <= f.size => xor_inputs(f, n),
         Ok(_) => parts::refused(Refusal::Misfit),
         Err(why) => parts::refused(why),
     }

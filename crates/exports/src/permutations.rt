@@ -3,6 +3,7 @@
 ghost use Rattle.std.specs.Prelude.{◌≡◌, ◌^◌, ◌≤◌, take};
 ghost use Rattle.lists.specs.Lists.{written};
 ghost use Rattle.orders.specs.Orders.{P};
+ghost use Rattle.orders.specs.Places.{place_call};
 ghost use Rattle.answers.specs.Refusals.{answer_of_option};
 ghost use Rattle.exports.specs.Coded.{coded_number, fed_all};
 ghost use Rattle.exports.specs.Crossings.{crossed};
@@ -77,6 +78,13 @@ pub fn perillajamb_order_next(ws: &mut [u32]) -> u64
     let said = order.next();
     records::keep(said.is_ok(), order, ws);
     parts::number_or_none(said)
+}
+
+// The place of a location in the order of 0..n.
+pub fn perillajamb_place(key: u64, n: u32, location: u32) -> u64
+    ensures { result ≡ coded_number (place_call key n location) }
+{
+    parts::number(orders::place::place(key, n, location))
 }
 
 fn numbers_fed(n: u32, key: u64, count: u32) -> u64

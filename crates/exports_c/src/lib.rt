@@ -11,11 +11,12 @@ pub mod slots;
 ghost use Rattle.std.specs.Prelude.{◌≡◌};
 ghost use Rattle.words.specs.Words.{wrapping_mul, rotate_right, mix};
 ghost use Rattle.layers.specs.Calls.{layer_apply};
+ghost use Rattle.layers.specs.Inverses.{layer_invert};
 ghost use Rattle.layers.specs.Layer.{layer};
 ghost use Rattle.hashes.specs.Hashes.{feed};
 ghost use Rattle.hashes.specs.Calls.{prev_call, next_call};
 ghost use Rattle.hashes.specs.Walks.{fall, rise};
-ghost use Rattle.exports.specs.Coded.{layer_xors, coded_hash, coded_number, falling_digest, rising_digest};
+ghost use Rattle.exports.specs.Coded.{layer_xors, input_xors, coded_hash, coded_number, falling_digest, rising_digest};
 
 #[unsafe(no_mangle)]
 pub extern "C" fn perillajamb_wrapping_mul(a: u64, b: u64) -> u64
@@ -52,6 +53,22 @@ pub extern "C" fn perillajamb_layer_xors(key: u64, layer: u32, n: u32) -> u64
     ensures { result ≡ coded_number (layer_xors key layer n) }
 {
     exports::perillajamb_layer_xors(key, layer, n)
+}
+
+// The input of a layer whose output is y.
+#[unsafe(no_mangle)]
+pub extern "C" fn perillajamb_layer_invert(key: u64, layer: u32, y: u32) -> u64
+    ensures { result ≡ coded_number (layer_invert layer key y) }
+{
+    exports::perillajamb_layer_invert(key, layer, y)
+}
+
+// The same of one layer's inverse: the inputs for its outputs 0..n, xored, with the same refusal.
+#[unsafe(no_mangle)]
+pub extern "C" fn perillajamb_input_xors(key: u64, layer: u32, n: u32) -> u64
+    ensures { result ≡ coded_number (input_xors key layer n) }
+{
+    exports::perillajamb_input_xors(key, layer, n)
 }
 
 #[unsafe(no_mangle)]

@@ -13,11 +13,12 @@ use Rattle.std.specs.Prelude.{Option, Some, None}
 use Rattle.std.specs.Option.{unwrap_or}
 use Rattle.std.specs.List.{position_or_len, position}
 use Rattle.std.proofs.lemmas.List.{take_min, take-append-le}
+use Rattle.answers.specs.Answers.{Answer, refusal, result, After, after}
 use Rattle.lists.specs.Lists.{written}
 use Rattle.lists.proofs.Tests.{by_test, by_below, by_cond}
 use Rattle.lists.proofs.Writing.{written_take}
 use Rattle.fields.specs.Texts.{Put}
-use Rattle.fields.specs.Cuts.{end_of, kept, AfterCut, after_cut, cut_call}
+use Rattle.fields.specs.Cuts.{end_of, kept, cut_call}
 use Rattle.fields.specs.declared.cuts.Cutting.{Cutting}
 use Rattle.fields.specs.declared.cuts.Cutting.TheVariants.{Open, Whole, Joined}
 use Rattle.fields.proofs.PutLaws.{put_is, put_places}
@@ -118,13 +119,13 @@ module _ (line bytes : List ℕ) (m most h count : ℕ) (room : most ≡ min (le
 module _ (piece line : List ℕ) (m : ℕ) where
   -- no line feed is there,
   pub cut_open : (n : ℕ) (line' : List ℕ) → length piece ≤ end_of piece → n ≡ length (kept line m piece) → line' ≡ written (kept line m piece) line
-      → after_cut (Open n) line' ≡ cut_call piece m line
+      → after (result (Open n)) line' ≡ cut_call piece m line
   unfolding cut_call
   cut_open n line' h e w = rw (le-leb (length piece) (end_of piece) h, take_all (end_of piece) piece h, e, w)
 
   module _ (size e : ℕ) (is : e ≡ end_of piece) (inside : e < length piece) where
     -- or nothing is held of the line that it ends,
-    pub cut_whole : m ≡ 0 → size ≡ min e (min (length line) 81) → after_cut (Whole size (e + 1)) line ≡ cut_call piece m line
+    pub cut_whole : m ≡ 0 → size ≡ min e (min (length line) 81) → after (result (Whole size (e + 1))) line ≡ cut_call piece m line
     unfolding cut_call kept
     cut_whole z s =
         let h : end_of piece < length piece = omega arith in
@@ -134,7 +135,7 @@ module _ (piece line : List ℕ) (m : ℕ) where
 
     -- or some bytes of it are
     pub cut_joined : (line' : List ℕ) → (m ≡ 0 → ⊥) → size ≡ length (kept line m (take e piece)) → line' ≡ written (kept line m (take e piece)) line
-        → after_cut (Joined size (e + 1)) line' ≡ cut_call piece m line
+        → after (result (Joined size (e + 1))) line' ≡ cut_call piece m line
     unfolding cut_call
     cut_joined line' z s w =
         let h : end_of piece < length piece = omega arith in
@@ -159,6 +160,11 @@ abbrev pub Gives : List ℕ → List ℕ → ℕ → Cutting → List ℕ → Ty
 Gives piece line m (Open n) line' = Held piece (take m line) (take n line') n
 Gives piece line m (Whole size taken) line' = (m ≡ 0) × (size ≤ length piece) × Ended piece (take m line) (take size piece) taken
 Gives piece line m (Joined size taken) line' = (size ≤ length line') × Ended piece (take m line) (take size line') taken
+
+-- of a call's answer, which is no refusal
+abbrev GivesBy : List ℕ → List ℕ → ℕ → Answer Cutting → List ℕ → Type 0
+GivesBy piece line m (refusal w) line' = ⊥
+GivesBy piece line m (result c) line' = Gives piece line m c line'
 
 module _ (piece line : List ℕ) (m : ℕ) (room : 81 ≤ length line) where
   kept_first : (bytes : List ℕ) → kept line m bytes ≡ take 81 (take m line ++ bytes)
@@ -205,10 +211,10 @@ module _ (piece line : List ℕ) (m : ℕ) (room : 81 ≤ length line) where
         bytes_are = written_take (length bytes) bytes line refl ∙ kept_first (take (end_of piece) piece) ∙ ap (λ (l : List ℕ). take 81 (take m line ++ l)) (take_all (end_of piece) piece h);
       }
 
-  call_gives : Gives piece line m (cut_call piece m line).cut (cut_call piece m line).line
+  call_gives : GivesBy piece line m (cut_call piece m line).answer (cut_call piece m line).left
   unfolding cut_call
   call_gives =
-      let P : AfterCut → Type 0 = λ a. Gives piece line m a.cut a.line in
+      let P : After (List ℕ) Cutting → Type 0 = λ a. GivesBy piece line m a.answer a.left in
       by_cond P (leb (length piece) (end_of piece)) _ _
       (λ y. gives_open (leb-true (length piece) (end_of piece) y))
       (λ n. by_cond P (eqb m 0) _ _
@@ -216,5 +222,5 @@ module _ (piece line : List ℕ) (m : ℕ) (room : 81 ≤ length line) where
       (λ z. gives_joined (leb-false (length piece) (end_of piece) n)))
 
   -- what is read off the promise of a call
-  pub cut_gives : (c : Cutting) (line' : List ℕ) → after_cut c line' ≡ cut_call piece m line → Gives piece line m c line'
-  cut_gives c line' is = subst (λ (a : AfterCut). Gives piece line m a.cut a.line) (sym is) call_gives
+  pub cut_gives : (c : Cutting) (line' : List ℕ) → after (result c) line' ≡ cut_call piece m line → Gives piece line m c line'
+  cut_gives c line' is = subst (λ (a : After (List ℕ) Cutting). GivesBy piece line m a.answer a.left) (sym is) call_gives

@@ -4,12 +4,13 @@ use mathlib.Core.Path.{◌≡◌, refl}
 use mathlib.Core.List.{[], ◌∷◌, ◌++◌}
 use mathlib.Core.Option.{none, some}
 use lib.ListN.{replicate}
+use Rattle.answers.specs.Answers.{result, after}
 use Rattle.lists.specs.Lists.{written}
 use Rattle.fields.specs.Lines.{fields, lines_of}
 use Rattle.fields.specs.Numbers.{within, digit_of, number_of, key_of}
 use Rattle.fields.specs.Printing.{decimal_of, capital_digit, key_text}
 use Rattle.fields.specs.Inputs.{short_line, only_line}
-use Rattle.fields.specs.Cuts.{kept, after_cut, cut_call, firsts, cut_lines}
+use Rattle.fields.specs.Cuts.{kept, cut_call, firsts, cut_lines}
 use Rattle.fields.specs.declared.cuts.Cutting.TheVariants.{Open, Whole, Joined}
 
 -- ---- numbers and keys
@@ -114,27 +115,27 @@ eighty_one = refl
 -- ---- cuts
 
 -- 'ab\ncd', with nothing held: the line 'ab' stands in the piece
-cut_whole : cut_call (97 ∷ 98 ∷ 10 ∷ 99 ∷ 100 ∷ []) 0 (replicate 81 0) ≡ after_cut (Whole 2 3) (replicate 81 0)
+cut_whole : cut_call (97 ∷ 98 ∷ 10 ∷ 99 ∷ 100 ∷ []) 0 (replicate 81 0) ≡ after (result (Whole 2 3)) (replicate 81 0)
 unfolding cut_call kept
 cut_whole = refl
 
 -- 'cd', with nothing held: it is held
-cut_open : cut_call (99 ∷ 100 ∷ []) 0 (replicate 81 0) ≡ after_cut (Open 2) (99 ∷ 100 ∷ replicate 79 0)
+cut_open : cut_call (99 ∷ 100 ∷ []) 0 (replicate 81 0) ≡ after (result (Open 2)) (99 ∷ 100 ∷ replicate 79 0)
 unfolding cut_call kept written
 cut_open = refl
 
 -- 'e\nf', with 'cd' held: the line is 'cde'
-cut_joined : cut_call (101 ∷ 10 ∷ 102 ∷ []) 2 (99 ∷ 100 ∷ replicate 79 0) ≡ after_cut (Joined 3 2) (99 ∷ 100 ∷ 101 ∷ replicate 78 0)
+cut_joined : cut_call (101 ∷ 10 ∷ 102 ∷ []) 2 (99 ∷ 100 ∷ replicate 79 0) ≡ after (result (Joined 3 2)) (99 ∷ 100 ∷ 101 ∷ replicate 78 0)
 unfolding cut_call kept written
 cut_joined = refl
 
 -- 100 blanks and a line feed: 81 of them are the line
-cut_long : cut_call (replicate 100 32 ++ 10 ∷ []) 0 (replicate 81 0) ≡ after_cut (Whole 81 101) (replicate 81 0)
+cut_long : cut_call (replicate 100 32 ++ 10 ∷ []) 0 (replicate 81 0) ≡ after (result (Whole 81 101)) (replicate 81 0)
 unfolding cut_call kept
 cut_long = refl
 
 -- a list of two places holds two bytes: 'c', with 'ab' held
-cut_short : cut_call (99 ∷ []) 2 (97 ∷ 98 ∷ []) ≡ after_cut (Open 2) (97 ∷ 98 ∷ [])
+cut_short : cut_call (99 ∷ []) 2 (97 ∷ 98 ∷ []) ≡ after (result (Open 2)) (97 ∷ 98 ∷ [])
 unfolding cut_call kept written
 cut_short = refl
 

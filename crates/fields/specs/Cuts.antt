@@ -1,6 +1,7 @@
 -- Document 01, **The line program**: bytes that come in pieces, cut into lines.
 -- Assumes nothing.
 use Rattle.std.specs.Prelude.{◌≡◌, cond, List, [], ◌∷◌, ◌++◌, map, ℕ, suc, ◌≤◌, min, eqb, leb, length, take}
+use Rattle.answers.specs.Answers.{result, After, after}
 use Rattle.lists.specs.Lists.{written}
 use Rattle.fields.specs.declared.cuts.Cutting.{Cutting}
 use Rattle.fields.specs.declared.cuts.Cutting.TheVariants.{Open, Whole, Joined}
@@ -20,26 +21,18 @@ end_of (b ∷ l) = cond (eqb b 10) 0 (suc (end_of l))
 unfoldable pub kept : List ℕ → ℕ → List ℕ → List ℕ
 kept line m bytes = take (min (length line) held_most) (take m line ++ bytes)
 
--- what a cut says, and the list that holds the line after it
-pub record AfterCut : Type 0 where
-  pub cut : Cutting
-  pub line : List ℕ
-
--- as such a record
-abbrev pub after_cut : Cutting → List ℕ → AfterCut
-after_cut c l = record { cut = c; line = l }
-
--- A cut of a piece, where the first m bytes of `line` are held: up to and with the first line feed, or all of it. A line that stands
--- in the piece, with nothing held, is not written into the list; it too is given no further than the list has room for.
-unfoldable pub cut_call : List ℕ → ℕ → List ℕ → AfterCut
+-- A cut of a piece, where the first m bytes of `line` are held: up to and with the first line feed, or all of it. It is never refused,
+-- and leaves the list that holds the line. A line that stands in the piece, with nothing held, is not written into the list; it too is
+-- given no further than the list has room for.
+unfoldable pub cut_call : List ℕ → ℕ → List ℕ → After (List ℕ) Cutting
 cut_call piece m line =
     let e = end_of piece in
     let bytes = kept line m (take e piece) in
     cond (leb (length piece) e)
-    (after_cut (Open (length bytes)) (written bytes line))
+    (after (result (Open (length bytes))) (written bytes line))
     (cond (eqb m 0)
-    (after_cut (Whole (length bytes) (suc e)) line)
-    (after_cut (Joined (length bytes) (suc e)) (written bytes line)))
+    (after (result (Whole (length bytes) (suc e))) line)
+    (after (result (Joined (length bytes) (suc e))) (written bytes line)))
 
 -- ---- what a cut gives
 
@@ -86,6 +79,6 @@ cut_lines held (b ∷ l) = cond (eqb b 10) (held ∷ cut_lines [] l) (cut_lines 
 -- they give, with the one that the input's end ends. A cut is lent any list long enough that has the held bytes in front.
 pub data Cuts : List ℕ → List (List ℕ) → List (List ℕ) → Type 0 where
   ends : (held : List ℕ) → Cuts held [] (unended held)
-  cuts : (piece line : List ℕ) (m : ℕ) → m ≤ held_most → held_most ≤ length line → (c : Cutting) (line' : List ℕ) → after_cut c line' ≡ cut_call piece m line
+  cuts : (piece line : List ℕ) (m : ℕ) → m ≤ held_most → held_most ≤ length line → (c : Cutting) (line' : List ℕ) → after (result c) line' ≡ cut_call piece m line
       → (parts lines : List (List ℕ)) → Cuts (take (held_by c) line') parts lines
       → Cuts (take m line) (take (taken_by c piece) piece ∷ parts) (line_of c piece line' ++ lines)

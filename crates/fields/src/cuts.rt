@@ -1,8 +1,10 @@
 // Bytes that come in pieces, cut into lines: a line that straddles pieces is held in a list, which is lent, since there is no heap.
 ghost use Rattle.std.specs.Prelude.{◌≡◌, ◌==◌, length};
 ghost use Rattle.std.specs.List.{position};
+ghost use Rattle.answers.specs.Answers as Answers;
+ghost use Rattle.answers.specs.Answers.{after};
 ghost use Rattle.lists.specs.Lists.{written};
-ghost use Rattle.fields.specs.Cuts.{kept, after_cut, cut_call};
+ghost use Rattle.fields.specs.Cuts.{kept, cut_call};
 
 // Of a line that has not ended its first bytes are held, so many, which is enough to know that it is too long.
 pub const HELD_MOST: usize = 81;
@@ -41,7 +43,7 @@ fn keep(line: &mut [u8], held: usize, bytes: &[u8]) -> usize
 
 // Takes a piece up to and with its first line feed, or all where there is none; of the line so many bytes are held in the list.
 pub fn cut(piece: &[u8], held: usize, line: &mut [u8]) -> Cutting
-    ensures { after_cut result line.new ≡ cut_call piece.now held line.old }
+    ensures { after (Answers.result result) line.new ≡ cut_call piece.now held line.old }
 {
     let Some(end) = line_feed(piece) else {
         let held = keep(line, held, piece);

@@ -2,6 +2,8 @@ pub mod RoundLaws
 pub mod Inverse
 pub mod Permutes
 pub mod KeyedLaws
+pub mod InverseLaws
+pub mod KeyedInverse
 pub mod FormulaLaws
 pub mod CallLaws
 pub mod RefusedLaws

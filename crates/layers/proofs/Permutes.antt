@@ -1,38 +1,37 @@
 -- Document 01: "Layer j, 0 to 14, permutes 0..4^(j+1)." For every layer and key by one argument: nothing here goes by
 -- the layer's number, the key is any number.
 -- Assumes nothing.
-use Rattle.std.proofs.Common.{◌≡◌, ℕ, ◌+◌, ◌*◌, ◌/◌, ◌%◌, ◌^◌, ◌<◌, ◌≤◌, eqb, length, sym, refl, ap, ◌∙◌, mod-lt, mod-eq_of_lt, div-lt_iff_lt-mul, arith, lit<, pow_pos, eq-eqb, ne_eqb}
+use Rattle.std.proofs.Common.{◌≡◌, ℕ, ◌+◌, ◌*◌, ◌/◌, ◌%◌, ◌^◌, ◌<◌, ◌≤◌, eqb, length, sym, refl, ap, ◌∙◌, mod-lt, mod-eq_of_lt, arith, lit<, pow_pos, eq-eqb, ne_eqb}
 use native.Mathlib.Nat.{div-eq_of_lt, pow-le-pow_right}
-use lib.Pow.{split, high, low}
+use lib.Pow.{split, high, low, mod-pow-add}
 use Rattle.lists.specs.Lists.{keep, below, zero_to}
-use Rattle.lists.proofs.Numbers.{four_pow, four_pow_double}
+use Rattle.lists.proofs.Numbers.{four_pow_double}
 use Rattle.lists.proofs.Tests.{by_below, below_yes, below_no}
 use Rattle.lists.proofs.Keeping.{keep_same}
 use Rattle.lists.proofs.Permutations.{inputs_below}
 use Rattle.layers.specs.declared.feistel.Halves.{Halves}
 use Rattle.layers.specs.Layer.{size, round_count, start, rounds, over, layer, top_bits}
 use Rattle.layers.specs.InnerRounds.{Within}
-use Rattle.layers.specs.Permutations.{under, back, unlayer, Permutes}
+use Rattle.layers.specs.Permutations.{under, last_key, back, unlayer, Permutes}
 use Rattle.layers.proofs.RoundLaws.{start_within, rounds_within, over_lt}
-use Rattle.layers.proofs.Inverse.{last_key, back_rounds, back_any, back_under, rounds_back, back_within}
+use Rattle.layers.proofs.Inverse.{back_rounds, back_any, back_under, rounds_back, back_within}
 
 -- ---- a number and its halves
 
-over_start : (h key x : ℕ) → x < 4 ^ h → over h (start h key x) ≡ x
+pub over_start : (h key x : ℕ) → over h (start h key x) ≡ x % 4 ^ h
 unfolding over start
-over_start h key x p =
-    let q : x < 2 ^ h * 2 ^ h = rw four_pow at p in
-    let e : x / 2 ^ h % 2 ^ h ≡ x / 2 ^ h = mod-eq_of_lt ((div-lt_iff_lt-mul (pow_pos h)).1 q) in
-    rw e (split x h)
+over_start h key x =
+    let e : h + h ≡ 2 * h = omega arith in
+    sym (mod-pow-add x h h) ∙ ap (λ (i : ℕ). x % 2 ^ i) e ∙ ap (λ (n : ℕ). x % n) (sym (four_pow_double h))
 
-start_over : (h key : ℕ) (s : Halves) → Within h s → start h key (over h s) ≡ under key s
+pub start_over : (h key : ℕ) (s : Halves) → Within h s → start h key (over h s) ≡ under key s
 unfolding over start
 start_over h key s w =
     let e : (s.l * 2 ^ h + s.r) / 2 ^ h % 2 ^ h ≡ s.l = rw (high s.l h w.right) (mod-eq_of_lt w.left) in
     λ i. record { l = e i; r = low s.l h w.right i; key = key }
 
 -- the key plays no part in the number
-over_under : (h K : ℕ) (s : Halves) → over h (under K s) ≡ over h s
+pub over_under : (h K : ℕ) (s : Halves) → over h (under K s) ≡ over h s
 unfolding over
 over_under h K s = refl
 
@@ -59,7 +58,7 @@ unlayer_layer j key x p =
     ap (over h)
     (ap (back h n key) (start_over h key s (rounds_within h n _ (start_within h key x)))
     ∙ back_any h n key key s ∙ undone h n key x)
-    ∙ over_start h key x p
+    ∙ over_start h key x ∙ mod-eq_of_lt p
 
 pub layer_unlayer : (j key y : ℕ) → y < size j → layer j key (unlayer j key y) ≡ y
 unfolding unlayer layer
@@ -71,7 +70,7 @@ layer_unlayer j key y p =
     ap (over h)
     (ap (rounds h n) (start_over h key b (back_within h n key s (start_within h key y)) ∙ back_under h n key s)
     ∙ rounds_back h n key s)
-    ∙ over_under h (last_key h n key) s ∙ over_start h key y p
+    ∙ over_under h (last_key h n key) s ∙ over_start h key y ∙ mod-eq_of_lt p
 
 -- the whole claim
 pub layer_permutes : (j key : ℕ) → Permutes j key

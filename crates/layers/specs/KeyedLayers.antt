@@ -1,10 +1,11 @@
 -- A layer under a key whose numbers and first round keys were worked out once, to be applied many times.
 -- Assumes nothing.
-use Rattle.std.specs.Prelude.{◌≡◌, ℕ, ◌+◌, ◌-◌, ◌*◌, ◌/◌, ◌%◌, ◌^◌, ◌≤◌, cond, bit_or, bit_xor, nat_le}
+use Rattle.std.specs.Prelude.{◌≡◌, ℕ, ◌+◌, ◌-◌, ◌*◌, ◌/◌, ◌%◌, ◌^◌, ◌≤◌, ◌<◌, cond, bit_or, bit_xor, nat_le}
 use Rattle.answers.specs.Answers.{Answer, refusal, result}
 use Rattle.layers.specs.declared.RoundKey.{RoundKey}
 use Rattle.layers.specs.declared.KeyedLayer.{KeyedLayer}
 use Rattle.layers.specs.Layer.{size, round_count, start, next_key, rounds, over, layer}
+use Rattle.layers.specs.Inverses.{input_of}
 
 -- What a round takes of its K: what r is xored with, and w.
 abbrev pub k_xor : ℕ → ℕ
@@ -60,3 +61,25 @@ applied f x =
 -- "Layer j, 0 to 14": y is layer j at x, where the record is that of layer j under a key
 abbrev pub LayerAt : KeyedLayer → ℕ → ℕ → Type 0
 LayerAt f x y = (j key : ℕ) → j ≤ 14 → f ≡ keyed_layer j key → y ≡ layer j key x
+
+-- ---- its inverse
+
+-- how many inputs any such record tells apart, and as many outputs: "the size 4^(j+1)" in that of layer j
+abbrev pub reach : KeyedLayer → ℕ
+reach f = 4 ^ (f.half % 16)
+
+-- Document 02, §1: "the input that gives a stated output", of any such record: x gives y, which counts modulo the reach. There is just one
+-- such x (law `keyed_undo`).
+pub record Inverts (f : KeyedLayer) (y x : ℕ) : Type 0 where
+  pub below : x < reach f
+  pub gives : applied f x ≡ y % reach f
+
+-- "Layer j, 0 to 14": x is the input that gives y, modulo the size, where the record is that of layer j under a key
+abbrev pub InputAt : KeyedLayer → ℕ → ℕ → Type 0
+InputAt f y x = (j key : ℕ) → j ≤ 14 → f ≡ keyed_layer j key → x ≡ input_of j key (y % size j)
+
+-- Layer and inverse of any such record "undo each other both ways". Law `keyed_undo`.
+pub record KeyedUndo (f : KeyedLayer) : Type 0 where
+  pub back : (x z : ℕ) → Inverts f (applied f x) z → z ≡ x % reach f
+  pub forth : (y x : ℕ) → Inverts f y x → applied f x ≡ y % reach f
+  pub only : (y x z : ℕ) → Inverts f y x → Inverts f y z → x ≡ z

@@ -1,5 +1,6 @@
 pub mod Layer
 pub mod Calls
+pub mod Inverses
 pub mod KeyedLayers
 pub mod Permutations
 pub mod RefusedBy

@@ -9,3 +9,7 @@ keyed_refusals = 12 ∷ []
 -- `layer_apply`. 12: "a layer above 14, or a layer's input not below its size"
 abbrev pub apply_refusals : List ℕ
 apply_refusals = 12 ∷ []
+
+-- `layer_invert`. 12: "a layer above 14"; 02, §1: "12 if that isn't below the size"
+abbrev pub invert_refusals : List ℕ
+invert_refusals = 12 ∷ []

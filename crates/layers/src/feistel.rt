@@ -3,6 +3,7 @@ ghost use Rattle.std.specs.Prelude.{◌≡◌, ◌-◌, ◌*◌, ◌^◌, ◌<�
 ghost use Rattle.layers.specs.Layer.{start, next_key, round, rounds, over};
 ghost use Rattle.layers.specs.KeyedLayers.{new_right};
 ghost use Rattle.layers.specs.InnerRounds.{Within};
+ghost use Rattle.layers.specs.Permutations.{last_key, prev_key, undo, back};
 
 use crate::RoundKey;
 
@@ -121,6 +122,60 @@ impl HalfBits {
         ensures { result ≡ over self.bits s }
     {
         (s.l << self.bits) | s.r
+    }
+
+    // The key of the round before.
+    fn prev_key(self, key: u64) -> u64
+        ensures { result ≡ prev_key self.bits key }
+    {
+        words::rotate_right(key.wrapping_sub(0x9E37_79B9_7F4A_7C15), 64 - 2 * self.bits)
+    }
+
+    // One round undone, where the halves hold the key after it.
+    fn undo(self, s: Halves) -> Halves
+        ensures { result ≡ undo self.bits (prev_key self.bits s.key) s }
+    {
+        let key = self.prev_key(s.key);
+        Halves {
+            l: self.turned(s.r, s.l, RoundKey::from(key)),
+            r: s.l,
+            key,
+        }
+    }
+
+    // The key after n rounds.
+    fn last_key(self, n: u32, key: u64) -> u64
+        ensures { result ≡ last_key self.bits n key }
+    {
+        let mut k = key;
+        for _ in 0..n {
+            k = self.next_key(k);
+        }
+        k
+    }
+
+    // n rounds undone, the last first; the first of them had that key.
+    pub(crate) fn back(self, n: u32, key: u64, s: Halves) -> Halves
+        ensures { result ≡ back self.bits n key s }
+    {
+        let mut t = Halves {
+            l: s.l,
+            r: s.r,
+            key: self.last_key(n, key),
+        };
+        for _ in 0..n {
+            t = self.undo(t);
+        }
+        t
+    }
+
+    // A number back through n rounds.
+    pub(crate) fn back_network(self, n: u32, key: u64, y: u32) -> u32
+        ensures { result ≡ over self.bits (back self.bits n key (start self.bits key y)) }
+    {
+        let s = self.start(key, y);
+        let t = self.back(n, key, s);
+        self.over(t)
     }
 
     // A number through n rounds.

@@ -1,4 +1,4 @@
-// The layers of document 01: each a permutation of 0..4^(j+1), made of Feistel rounds.
+// The layers of document 01: each a permutation of 0..4^(j+1), made of Feistel rounds. With their inverses, which document 02 adds.
 #![tactic(auto)]
 
 mod feistel;
@@ -7,7 +7,8 @@ mod formulas;
 ghost use Rattle.std.specs.Prelude.{◌≡◌, ◌<◌};
 ghost use Rattle.answers.specs.Refusals.{answer_of};
 ghost use Rattle.layers.specs.Calls.{layer_apply};
-ghost use Rattle.layers.specs.KeyedLayers.{round_key, keyed_layer, keyed, applied, LayerAt};
+ghost use Rattle.layers.specs.Inverses.{layer_invert};
+ghost use Rattle.layers.specs.KeyedLayers.{round_key, keyed_layer, keyed, applied, LayerAt, Inverts, InputAt};
 
 use answers::Refusal;
 use feistel::{HalfBits, Halves};
@@ -100,6 +101,26 @@ impl KeyedLayer {
         };
         half.over(half.unrolled(self.more, four))
     }
+
+    // The input that gives y, which counts modulo the size: of the record of layer j the inverse of layer j at y; of any other, what its
+    // numbers take to y. Inlined, as `apply` is.
+    #[inline(always)]
+    pub fn invert(self, y: u32) -> u32
+        ensures any { Inverts self y result }
+        ensures layer { InputAt self y result }
+    {
+        let half = HalfBits::new(self.half % 16);
+        let t = half.back(self.more, self.key, half.start(self.key, y));
+        let b = half.turned(t.r, t.l, self.fourth);
+        let a = half.turned(t.l, b, self.third);
+        let r = half.turned(b, a, self.second);
+        let l = half.turned(a, r, self.first);
+        half.over(Halves {
+            l,
+            r,
+            key: self.key,
+        })
+    }
 }
 
 // A layer at x; refusal 12 where there is no such layer or x is not below its size. Inlined, so that the answer need not go through
@@ -116,4 +137,18 @@ pub fn layer_apply(layer: u32, key: u64, x: u32) -> Result<u32, Refusal>
     }
     let half = HalfBits::new(formulas::bits(layer) / 2);
     Ok(half.network(formulas::rounds(layer), key, x))
+}
+
+// The input of a layer whose output is y; refusal 12 where there is no such layer or y is not below its size.
+pub fn layer_invert(layer: u32, key: u64, y: u32) -> Result<u32, Refusal>
+    ensures { answer_of result ≡ layer_invert layer key y }
+{
+    if KeyedLayer::LAYER_LIMIT < layer {
+        return Err(Refusal::Misfit);
+    }
+    if formulas::size(layer) <= y {
+        return Err(Refusal::Misfit);
+    }
+    let half = HalfBits::new(formulas::bits(layer) / 2);
+    Ok(half.back_network(formulas::rounds(layer), key, y))
 }

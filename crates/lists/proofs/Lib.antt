@@ -7,6 +7,7 @@ pub mod Extremes
 pub mod Counting
 pub mod Permutations
 pub mod Prefixes
+pub mod Positions
 pub mod Replacing
 pub mod Standing
 pub mod Exchanges

@@ -133,6 +133,17 @@ pub occurrences_up_to_first : (p q : ℕ → Bool) → Stronger p q → (v k : �
 occurrences_up_to_first p q i v k xs = rw (← take_up_to p q i k xs) (omega (arith, occurrences_take v k (keep q (up_to p k xs)), occurrences_keep q v (up_to p k xs)))
 
 -- if the list has enough entries, so has the rest of it
+-- past a front part that has fewer
+pub up_to_past : (p : ℕ → Bool) (k : ℕ) (xs ys : List ℕ) → length (keep p xs) < k → length (up_to p k (xs ++ ys)) ≡ length xs + length (up_to p (k - length (keep p xs)) ys)
+up_to_past p k [] ys h = let e : k - 0 ≡ k = omega arith in rw e (omega arith)
+up_to_past p zero (x ∷ xs) ys h = absurd (omega arith)
+up_to_past p (suc k) (x ∷ xs) ys h =
+    by_test (p x)
+    (λ y. let h' : suc (length (keep p xs)) < suc k = rw y at h in
+    let e : suc k - suc (length (keep p xs)) ≡ k - length (keep p xs) = omega arith in
+    rw (y, e) (ap suc (up_to_past p k xs ys (omega arith)) ∙ omega arith))
+    (λ m. let h' : length (keep p xs) < suc k = rw m at h in rw m (ap suc (up_to_past p (suc k) xs ys h') ∙ omega arith))
+
 pub left_fits : (p : ℕ → Bool) (k x : ℕ) (xs : List ℕ) → suc k ≤ length (keep p (x ∷ xs)) → left (p x) k ≤ length (keep p xs)
 left_fits p k x xs h =
     by_test (p x)

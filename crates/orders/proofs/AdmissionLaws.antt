@@ -29,7 +29,7 @@ use Rattle.orders.proofs.LogLaws.{pow_up}
 use Rattle.orders.proofs.OrderLaws.{zero_top_lem, low_outputs}
 use Rattle.orders.proofs.HeldLaws.{held_at, inputs_at, Comes, comes, waits, held_long, grow_through, grow_to_lem, grow_none}
 use Rattle.orders.proofs.DueLaws.{due_some, due_none, due_next, next_exchange}
-use Rattle.orders.proofs.ReservoirLaws.{held_place, written_kept, sample_is, fitting_kept, list_at, used_is}
+use Rattle.orders.proofs.ReservoirLaws.{held_arranged, written_kept, sample_is, fitting_kept, list_at, used_is}
 
 -- ---- an exchange
 
@@ -54,7 +54,7 @@ module _ (r : ConsistentReservoir) (l : List ℕ) (k0 : 0 < r.k) (k_le : r.k ≤
       is_due = v_due;
       j_le = i-le;
       at_layer = at;
-      short = rw (add-one v) (omega (arith, end_length, ap length c.list, ap length (held_place (key_of r) i r.k (suc v) i-le)));
+      short = rw (add-one v) (omega (arith, end_length, ap length c.list, ap length (held_arranged (key_of r) i r.k (suc v) i-le)));
       is_refused = by_v ∙ rw (lt-ltb (length l) _ h);
     }
 
@@ -149,7 +149,7 @@ module _ (r : ConsistentReservoir) (l : List ℕ) (s : Kept r l) (full : r.used 
           n_le = up 15 (omega (arith, s.j_le));
           j_le = omega arith;
           used_le = s.used_le;
-          list_is = list_at r l s ∙ sym (rw e at g) ∙ sym (held_place (key_of r) 14 r.k r.n (omega arith));
+          list_is = list_at r l s ∙ sym (rw e at g) ∙ sym (held_arranged (key_of r) 14 r.k r.n (omega arith));
         };
       }
 

@@ -26,7 +26,7 @@ use Rattle.orders.specs.Admissions.{Kept, Opened, ends_at, Short, Admits}
 use Rattle.orders.proofs.LogLaws.{pow_up, layer_fits, layer_least, layer_in}
 use Rattle.orders.proofs.HeldLaws.{held_at, Comes, comes, waits, grow_none}
 use Rattle.orders.proofs.DueLaws.{due_some, due_next, some_is, none_not}
-use Rattle.orders.proofs.ReservoirLaws.{held_place, fitting_kept, list_at, used_is, opening_held, n_in}
+use Rattle.orders.proofs.ReservoirLaws.{held_arranged, fitting_kept, list_at, used_is, opening_held, n_in}
 use Rattle.orders.proofs.AdmissionLaws.{admit_kept, zeros_at, grown_at, k_listed, just_k, grown_held}
 use Rattle.orders.proofs.MemoryLaws.{admit_length}
 
@@ -38,7 +38,7 @@ pub record Anew (r : ConsistentReservoir) (l : List ℕ) (b : Bool) : Type 0 whe
 
 -- what the layer of n lists is what an open lists
 pub held_opening : (key k n : ℕ) → n ≤ 2 ^ 30 → held key (layer_of n) k n ≡ opening key k n
-held_opening key k n h = held_place key (layer_of n) k n (layer_in n h) ∙ sym (opening_held key k n h)
+held_opening key k n h = held_arranged key (layer_of n) k n (layer_in n h) ∙ sym (opening_held key k n h)
 
 -- ---- the layer that an admit ends at
 

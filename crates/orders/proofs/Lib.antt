@@ -14,7 +14,7 @@ pub mod SurveyLaws
 pub mod CoverLaws
 pub mod CheckLaws
 pub mod GatherLaws
-pub mod PlacedLaws
+pub mod LayLaws
 pub mod WideLaws
 pub mod LowLaws
 pub mod GrowLaws
@@ -27,4 +27,7 @@ pub mod DescentLaws
 pub mod NextLaws
 pub mod MemoryLaws
 pub mod RefusedLaws
+pub mod ZeroLaws
+pub mod PlaceLaws
+pub mod ClimbLaws
 pub mod AnewLaws

@@ -18,8 +18,8 @@ use Rattle.orders.specs.declared.scans.Scan.{Scan}
 use Rattle.orders.specs.Orders.{layer_of}
 use Rattle.orders.specs.Reservoirs.{opening, counts}
 use Rattle.orders.specs.ReservoirCalls.{listed, sample, fitting, reservoir_of, open_call, sample_call}
-use Rattle.orders.specs.InnerPasses.{scan_of, placed}
-use Rattle.orders.proofs.PlacedLaws.{opening_length, opening_long, opening_fits, opening_placed}
+use Rattle.orders.specs.InnerPasses.{scan_of, arranged_over}
+use Rattle.orders.proofs.LayLaws.{opening_length, opening_long, opening_fits, opening_arranged}
 
 -- ---- open
 
@@ -48,13 +48,13 @@ module _ (key k n : ℕ) (l : List ℕ) where
       pub open_refused : length l < c.inputs → refused 4 l ≡ open_call k n key l
       open_refused h = rw (open_sized, ← inputs_open, lt-ltb (length l) c.inputs h)
 
-      pub open_done : c.inputs ≤ length l → after (result (reservoir_of key k n j c.inputs)) (placed key (j + 1) c.inputs l) ≡ open_call k n key l
+      pub open_done : c.inputs ≤ length l → after (result (reservoir_of key k n j c.inputs)) (arranged_over key (j + 1) c.inputs l) ≡ open_call k n key l
       open_done h =
           rw (
             add-one j,
             inputs_open,
             layer-is,
-            opening_placed key k n l s.limited,
+            opening_arranged key k n l s.limited,
             open_sized,
             le-ltb (length l) (length (opening key k n)) (omega (arith, inputs_open)),
           )

@@ -18,7 +18,7 @@ use Rattle.layers.specs.Layer.{size}
 use Rattle.layers.proofs.Permutes.{layer_permutes, top_zero}
 use Rattle.orders.specs.Orders.{layer_of, counter, zero_top, next_numbers, none_counted, whole, P}
 use Rattle.orders.specs.Reservoirs.{outputs}
-use Rattle.orders.specs.InnerPasses.{place}
+use Rattle.orders.specs.InnerPasses.{arranged}
 use Rattle.orders.proofs.LogLaws.{size_suc, layer_fits, layer_in, pow_up}
 use Rattle.orders.proofs.WalkLaws.{zeros, numbers_suc, numbers_zero}
 
@@ -34,39 +34,39 @@ module _ (key : ℕ) where
   pub outputs_order : (j : ℕ) → Order (4 ^ suc j) (outputs key j)
   outputs_order j = subst (λ (N : ℕ). Order N (outputs key j)) (size_suc j) (image_order (layer_permutes j key))
 
-  pub place_order : (m : ℕ) → Order (4 ^ m) (place key m)
-  unfolding place
-  place_order zero = order_one
-  place_order (suc j) = order_replace (outputs_order j) (place_order j) (omega arith)
+  pub arranged_order : (m : ℕ) → Order (4 ^ m) (arranged key m)
+  unfolding arranged
+  arranged_order zero = order_one
+  arranged_order (suc j) = order_replace (outputs_order j) (arranged_order j) (omega arith)
 
   -- exactly 4^j outputs of layer j are below 4^j
   pub low_outputs : (j : ℕ) → count_below (4 ^ j) (outputs key j) ≡ 4 ^ j
   low_outputs j = (outputs_order j).counts (4 ^ j) (omega arith)
 
   -- the numbers below 4^m of the next order are the order
-  place_step : (m : ℕ) → keep (below (4 ^ m)) (place key (suc m)) ≡ place key m
-  unfolding place
-  place_step m = order_keep (outputs_order m) (place_order m) (omega arith)
+  arranged_step : (m : ℕ) → keep (below (4 ^ m)) (arranged key (suc m)) ≡ arranged key m
+  unfolding arranged
+  arranged_step m = order_keep (outputs_order m) (arranged_order m) (omega arith)
 
   -- and so are those of every later one that pass a test which no number from 4^m up passes
-  pub place_later : (p : ℕ → Bool) (m : ℕ) → Stronger p (below (4 ^ m)) → (e : ℕ) → keep p (place key (m + e)) ≡ keep p (place key m)
-  place_later p m s zero = rw (add-zero m) refl
-  place_later p m s (suc e) =
+  pub arranged_later : (p : ℕ → Bool) (m : ℕ) → Stronger p (below (4 ^ m)) → (e : ℕ) → keep p (arranged key (m + e)) ≡ keep p (arranged key m)
+  arranged_later p m s zero = rw (add-zero m) refl
+  arranged_later p m s (suc e) =
       rw (add-suc m e)
-      (sym (keep_keep p (below (4 ^ (m + e))) (λ x y. below_below (pow_up m (m + e) (omega arith)) x (s x y)) (place key (suc (m + e))))
-      ∙ ap (keep p) (place_step (m + e))
-      ∙ place_later p m s e)
+      (sym (keep_keep p (below (4 ^ (m + e))) (λ x y. below_below (pow_up m (m + e) (omega arith)) x (s x y)) (arranged key (suc (m + e))))
+      ∙ ap (keep p) (arranged_step (m + e))
+      ∙ arranged_later p m s e)
 
-  same_place : (n m m' : ℕ) → n ≤ 4 ^ m → n ≤ 4 ^ m' → keep (below n) (place key m) ≡ keep (below n) (place key m')
-  same_place n m m' h h' =
+  same_arranged : (n m m' : ℕ) → n ≤ 4 ^ m → n ≤ 4 ^ m' → keep (below n) (arranged key m) ≡ keep (below n) (arranged key m')
+  same_arranged n m m' h h' =
       by_below m m'
-      (λ l. let e : m + (m' - m) ≡ m' = omega arith in sym (rw e at (place_later (below n) m (below_below h) (m' - m))))
-      (λ l. let e : m' + (m - m') ≡ m = omega arith in rw e at (place_later (below n) m' (below_below h') (m - m')))
+      (λ l. let e : m + (m' - m) ≡ m' = omega arith in sym (rw e at (arranged_later (below n) m (below_below h) (m' - m))))
+      (λ l. let e : m' + (m - m') ≡ m = omega arith in rw e at (arranged_later (below n) m' (below_below h') (m - m')))
 
   -- ---- the walk gives them
 
-  walked : (j : ℕ) (cs : List ℕ) → j < length cs → ((i : ℕ) → i ≤ j → counter cs i ≡ 0) → next_numbers key j (size j) cs ≡ place key (suc j)
-  unfolding place
+  walked : (j : ℕ) (cs : List ℕ) → j < length cs → ((i : ℕ) → i ≤ j → counter cs i ≡ 0) → next_numbers key j (size j) cs ≡ arranged key (suc j)
+  unfolding arranged
   walked zero cs l z =
       numbers_zero key (size 0) 0 cs (z 0 (omega arith)) l
       ∙ ap (λ (p : ℕ → Bool). replace p (outputs key 0) []) (zero_top_lem 0)
@@ -77,17 +77,17 @@ module _ (key : ℕ) where
       numbers_suc key j (size (suc j)) 0 cs (z (suc j) (omega arith)) l
       ∙ ap (λ (d : ℕ). replace (zero_top (suc j)) (outputs key (suc j)) (next_numbers key j d cs)) c
       ∙ ap (replace (zero_top (suc j)) (outputs key (suc j))) (walked j cs (omega arith) (λ i h. z i (omega arith)))
-      ∙ ap (λ (p : ℕ → Bool). replace p (outputs key (suc j)) (place key (suc j))) (zero_top_lem (suc j))
+      ∙ ap (λ (p : ℕ → Bool). replace p (outputs key (suc j)) (arranged key (suc j))) (zero_top_lem (suc j))
 
-  pub whole_place : (j : ℕ) → j ≤ 14 → whole key j ≡ place key (suc j)
+  pub whole_arranged : (j : ℕ) → j ≤ 14 → whole key j ≡ arranged key (suc j)
   unfolding whole
-  whole_place j h = walked j none_counted (omega (arith, length-replicate {A = ℕ} 15 0)) (λ i k. get_or-replicate 15 i 0 0 (omega arith))
+  whole_arranged j h = walked j none_counted (omega (arith, length-replicate {A = ℕ} 15 0)) (λ i k. get_or-replicate 15 i 0 0 (omega arith))
 
   -- ---- whole j
 
   -- it has each number below 4^(j+1) exactly once, and no other
   pub whole_order : (j : ℕ) → j ≤ 14 → Order (4 ^ suc j) (whole key j)
-  whole_order j h = subst (λ (xs : List ℕ). Order (4 ^ suc j) xs) (sym (whole_place j h)) (place_order (suc j))
+  whole_order j h = subst (λ (xs : List ℕ). Order (4 ^ suc j) xs) (sym (whole_arranged j h)) (arranged_order (suc j))
 
   pub whole_once : (j v : ℕ) → j ≤ 14 → v < 4 ^ suc j → occurrences v (whole key j) ≡ 1
   whole_once j v h l = order_once (whole_order j h) v l
@@ -97,18 +97,18 @@ module _ (key : ℕ) where
 
   -- its numbers below 4^j are the whole of the layer below
   pub whole_step : (j : ℕ) → suc j ≤ 14 → keep (below (4 ^ suc j)) (whole key (suc j)) ≡ whole key j
-  whole_step j h = ap (keep (below (4 ^ suc j))) (whole_place (suc j) h) ∙ place_step (suc j) ∙ sym (whole_place j (omega arith))
+  whole_step j h = ap (keep (below (4 ^ suc j))) (whole_arranged (suc j) h) ∙ arranged_step (suc j) ∙ sym (whole_arranged j (omega arith))
 
   -- ---- P(n), for n up to 2^30
 
   -- it is the numbers below n of any of the orders that hold n
-  pub P_at : (n m : ℕ) → n ≤ 2 ^ 30 → n ≤ 4 ^ m → P key n ≡ keep (below n) (place key m)
+  pub P_at : (n m : ℕ) → n ≤ 2 ^ 30 → n ≤ 4 ^ m → P key n ≡ keep (below n) (arranged key m)
   unfolding P
-  P_at n m b h = ap (keep (below n)) (whole_place (layer_of n) (layer_in n b)) ∙ same_place n (suc (layer_of n)) m (layer_fits n) h
+  P_at n m b h = ap (keep (below n)) (whole_arranged (layer_of n) (layer_in n b)) ∙ same_arranged n (suc (layer_of n)) m (layer_fits n) h
 
   -- of every whole that holds n
   pub P_whole : (n j : ℕ) → n ≤ 2 ^ 30 → j ≤ 14 → n ≤ 4 ^ suc j → P key n ≡ keep (below n) (whole key j)
-  P_whole n j b h l = P_at n (suc j) b l ∙ ap (keep (below n)) (sym (whole_place j h))
+  P_whole n j b h l = P_at n (suc j) b l ∙ ap (keep (below n)) (sym (whole_arranged j h))
 
   pub P_size : (j : ℕ) → j ≤ 14 → P key (size j) ≡ whole key j
   P_size j h =
@@ -120,12 +120,12 @@ module _ (key : ℕ) where
   pub P_part : (n n' : ℕ) → n ≤ n' → n' ≤ 2 ^ 30 → keep (below n) (P key n') ≡ P key n
   P_part n n' h b =
       ap (keep (below n)) (P_at n' 15 b b)
-      ∙ keep_keep (below n) (below n') (below_below h) (place key 15)
+      ∙ keep_keep (below n) (below n') (below_below h) (arranged key 15)
       ∙ sym (P_at n 15 (omega arith) (omega arith))
 
   -- it has exactly the numbers below n, each once
   pub P_order : (n : ℕ) → n ≤ 2 ^ 30 → Order n (P key n)
-  P_order n b = subst (λ (xs : List ℕ). Order n xs) (sym (P_at n 15 b b)) (order_part (place_order 15) n b)
+  P_order n b = subst (λ (xs : List ℕ). Order n xs) (sym (P_at n 15 b b)) (order_part (arranged_order 15) n b)
 
   pub P_length : (n : ℕ) → n ≤ 2 ^ 30 → length (P key n) ≡ n
   P_length n b = (P_order n b).size

@@ -25,13 +25,21 @@ use Rattle.orders.specs.Orders.{layer_of, counter, next_number}
 use Rattle.orders.specs.OrderCalls as Order
 use Rattle.orders.specs.Reservoirs.{opening, wider}
 use Rattle.orders.specs.ReservoirCalls.{key_of, j_of, fitting, open_call, exchange_by, exchange, admit_at, admit_call, grow_to, grow_layer_call, sample_call, ReservoirState, reservoir_state}
-use Rattle.orders.specs.RefusedBy.{order_refusals, order_next_refusals, walk_new_refusals, open_refusals, admit_refusals, grow_layer_refusals, sample_refusals}
+use Rattle.orders.specs.Places.{place_call}
+use Rattle.orders.specs.RefusedBy.{order_refusals, place_refusals, order_next_refusals, walk_new_refusals, open_refusals, admit_refusals, grow_layer_refusals, sample_refusals}
 
 -- ---- orders
 
 pub order_refuses : (n key : ℕ) → Among order_refusals (Order.new_call n key)
 unfolding Order.new_call has same
 order_refuses n key = by_cond (Among order_refusals) (ltb (2 ^ 30) n) _ _ (λ above. refl) (λ not. tt)
+
+pub place_refuses : (key n v : ℕ) → Among place_refusals (place_call key n v)
+unfolding place_call has same
+place_refuses key n v =
+    by_cond (Among place_refusals) (ltb (2 ^ 30) n) _ _
+    (λ above. refl)
+    (λ not. by_cond (Among place_refusals) (ltb v n) _ _ (λ below. tt) (λ no. refl))
 
 module _ (o : ConsistentPermutation) where
   abbrev OrderSpared : Step ConsistentPermutation → Type 0

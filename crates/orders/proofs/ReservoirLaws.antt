@@ -23,17 +23,17 @@ use Rattle.orders.specs.Orders.{layer_of, P}
 use Rattle.orders.specs.Reservoirs.{opening, held, counts}
 use Rattle.orders.specs.ReservoirCalls.{key_of, j_of, listed, sample, fitting, reservoir_of, open_call}
 use Rattle.orders.specs.Admissions.{Kept, Opened}
-use Rattle.orders.specs.InnerPasses.{place}
+use Rattle.orders.specs.InnerPasses.{arranged}
 use Rattle.orders.proofs.LogLaws.{size_suc, layer_fits, layer_in, pow_up}
-use Rattle.orders.proofs.OrderLaws.{place_order, whole_place, P_size}
+use Rattle.orders.proofs.OrderLaws.{arranged_order, whole_arranged, P_size}
 use Rattle.orders.proofs.CountsLaws.{counts→lt}
 use Rattle.orders.proofs.HeldLaws.{held_at, enough, held_count, held_sample}
 
 -- ---- what is kept from call to call
 
-pub held_place : (key j k n : ℕ) → j ≤ 14 → held key j k n ≡ held_at key (suc j) k n
+pub held_arranged : (key j k n : ℕ) → j ≤ 14 → held key j k n ≡ held_at key (suc j) k n
 unfolding held
-held_place key j k n h = ap (up_to (counts n) k) (whole_place key j h)
+held_arranged key j k n h = ap (up_to (counts n) k) (whole_arranged key j h)
 
 -- xs written over a list
 pub written_take : (xs l : List ℕ) → take (length xs) (written xs l) ≡ xs
@@ -53,12 +53,12 @@ written_kept key k n j u xs l k0 kn nj jj e h = record {
   n_le = nj;
   j_le = jj;
   used_le = omega (arith, written_long xs l);
-  list_is = ap (λ (i : ℕ). take i (written xs l)) e ∙ written_take xs l ∙ h ∙ sym (held_place key j k n jj);
+  list_is = ap (λ (i : ℕ). take i (written xs l)) e ∙ written_take xs l ∙ h ∙ sym (held_arranged key j k n jj);
 }
 
 module _ (r : ConsistentReservoir) (l : List ℕ) (s : Kept r l) where
   pub list_at : listed r l ≡ held_at (key_of r) (suc (j_of r)) r.k r.n
-  list_at = s.list_is ∙ held_place (key_of r) (j_of r) r.k r.n s.j_le
+  list_at = s.list_is ∙ held_arranged (key_of r) (j_of r) r.k r.n s.j_le
 
   pub used_is : length (listed r l) ≡ r.used
   used_is = length-take-le r.used l s.used_le
@@ -85,13 +85,13 @@ module _ (r : ConsistentReservoir) (l : List ℕ) (s : Kept r l) where
       ap (λ (i : ℕ). every (below i) (listed r l)) (size_suc (j_of r))
       ∙ ap (every (below (4 ^ suc (j_of r)))) list_at
       ∙ every_all (below (4 ^ suc (j_of r))) _
-      (all_up_to (counts r.n) (below (4 ^ suc (j_of r))) r.k (place (key_of r) (suc (j_of r))) (order_all (place_order (key_of r) (suc (j_of r)))))
+      (all_up_to (counts r.n) (below (4 ^ suc (j_of r))) r.k (arranged (key_of r) (suc (j_of r))) (order_all (arranged_order (key_of r) (suc (j_of r)))))
 
   last_low : (k : ℕ) → r.k ≡ suc k → last (listed r l) < r.n
   unfolding last
   last_low k e =
       let f : listed r l ≡ held_at (key_of r) (suc (j_of r)) (suc k) r.n = list_at ∙ ap (λ (i : ℕ). held_at (key_of r) (suc (j_of r)) i r.n) e in
-      let t = up_to_ends (counts r.n) k (place (key_of r) (suc (j_of r))) (omega (arith, e, enough (key_of r) (suc (j_of r)) r.k r.n (omega (arith, s.j_le)) s.k_le s.n_le)) in
+      let t = up_to_ends (counts r.n) k (arranged (key_of r) (suc (j_of r))) (omega (arith, e, enough (key_of r) (suc (j_of r)) r.k r.n (omega (arith, s.j_le)) s.k_le s.n_le)) in
       let g : last (listed r l) ≡ t.end = ap last f ∙ ends_end t in
       let b : t.end < r.n = counts→lt t.passes in
       omega arith
@@ -117,7 +117,7 @@ module _ (r : ConsistentReservoir) (l : List ℕ) (s : Kept r l) where
 pub opening_held : (key k n : ℕ) → n ≤ 2 ^ 30 → opening key k n ≡ held_at key (suc (layer_of n)) k n
 unfolding opening
 opening_held key k n h =
-    ap (up_to (counts n) k) (P_size key (layer_of n) (layer_in n h) ∙ whole_place key (layer_of n) (layer_in n h))
+    ap (up_to (counts n) k) (P_size key (layer_of n) (layer_in n h) ∙ whole_arranged key (layer_of n) (layer_in n h))
 
 -- any property of what an open says and leaves, by cases: a refusal leaves the list
 pub open_kept : (Q : After (List ℕ) ConsistentReservoir → Type 0) (k n key : ℕ) (l : List ℕ) → ((c : ℕ) → Q (refused c l))

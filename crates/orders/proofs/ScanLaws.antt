@@ -16,7 +16,7 @@ use Rattle.lists.proofs.Prefixes.{up_to_zero}
 use Rattle.layers.specs.Layer.{size, layer}
 use Rattle.orders.specs.declared.scans.Scan.{Scan}
 use Rattle.orders.specs.Reservoirs.{outputs}
-use Rattle.orders.specs.InnerPasses.{outs, least, scanned, scan_of, rank_of}
+use Rattle.orders.specs.InnerPasses.{outs, least, scanned, scan_of}
 
 -- ---- the smallest
 
@@ -101,28 +101,37 @@ scan_start key i b k =
     let e : size i - 0 ≡ size i = omega arith in
     rw e
 
--- ---- how many of a layer's first outputs have top bits 00
+-- the same of the inputs alone
+module _ (p : ℕ → Bool) where
+  pub inputs_turn : (key i l x y l' : ℕ) {s : ℕ} → x < size i → 0 < l → y ≡ layer i key x → l' ≡ cond (p y) (l - 1) l
+      → x + length (up_to p l (outs key i x (size i - x))) ≡ s → x + 1 + length (up_to p l' (outs key i (x + 1) (size i - (x + 1)))) ≡ s
+  inputs_turn key i l x y l' h z e f inv =
+      rw (f, e)
+      (ap (λ (r : Scan). r.inputs) (sym (scan_step p p l x 0 (layer i key x) (outs key i (x + 1) (size i - (x + 1))) z))
+      ∙ ap (λ (ys : List ℕ). x + length (up_to p l ys)) (sym (outs_cons key i x (size i) h)) ∙ inv)
+
+  pub inputs_done : (key i l x : ℕ) {s : ℕ} → l ≤ 0 → x + length (up_to p l (outs key i x (size i - x))) ≡ s → x ≡ s
+  inputs_done key i l x h inv = ap (λ (r : Scan). r.inputs) (sym (scan_enough p p l x 0 (outs key i x (size i - x)) h)) ∙ inv
+
+  pub inputs_full : (key i l x : ℕ) {s : ℕ} → size i ≤ x → x + length (up_to p l (outs key i x (size i - x))) ≡ s → x ≡ s
+  inputs_full key i l x h inv = ap (λ (r : Scan). r.inputs) (sym (scan_out p p l x 0)) ∙ ap (λ (ys : List ℕ). x + length (up_to p l ys)) (sym (outs_none key i x (size i) h)) ∙ inv
+
+-- ---- how many outputs are below a bound
 
 count_cons : (p : ℕ → Bool) (t y : ℕ) (xs : List ℕ) → t + length (keep p (y ∷ xs)) ≡ cond (p y) (t + 1) t + length (keep p xs)
 count_cons p t y xs = by_test (p y) (λ h. rw h (omega arith)) (λ h. rw h)
 
-pub rank_turn : (key i u x t y t' : ℕ) {s : ℕ} → x < u → y ≡ layer i key x → t' ≡ cond (ltb y (4 ^ i)) (t + 1) t
-    → t + count_below (4 ^ i) (outs key i x (u - x)) ≡ s → t' + count_below (4 ^ i) (outs key i (x + 1) (u - (x + 1))) ≡ s
+pub count_turn : (key i b u x t y t' : ℕ) {s : ℕ} → x < u → y ≡ layer i key x → t' ≡ cond (ltb y b) (t + 1) t
+    → t + count_below b (outs key i x (u - x)) ≡ s → t' + count_below b (outs key i (x + 1) (u - (x + 1))) ≡ s
 unfolding below
-rank_turn key i u x t y t' h e f inv =
+count_turn key i b u x t y t' h e f inv =
     rw (f, e)
-    (sym (count_cons (below (4 ^ i)) t (layer i key x) (outs key i (x + 1) (u - (x + 1))))
-    ∙ ap (λ (l : List ℕ). t + count_below (4 ^ i) l) (sym (outs_cons key i x u h)) ∙ inv)
+    (sym (count_cons (below b) t (layer i key x) (outs key i (x + 1) (u - (x + 1))))
+    ∙ ap (λ (l : List ℕ). t + count_below b l) (sym (outs_cons key i x u h)) ∙ inv)
 
-pub rank_start : (key i u : ℕ) → 0 + count_below (4 ^ i) (outs key i 0 (u - 0)) ≡ rank_of key i u
-unfolding rank_of
-rank_start key i u =
-    let e : u - 0 ≡ u = omega arith in
-    rw e (zero-add (count_below (4 ^ i) (outs key i 0 u)))
-
-pub rank_done : (key i u x t : ℕ) {s : ℕ} → u ≤ x → t + count_below (4 ^ i) (outs key i x (u - x)) ≡ s → t ≡ s
-rank_done key i u x t {s} h inv =
-    let r : t + 0 ≡ s = ap (λ (l : List ℕ). t + count_below (4 ^ i) l) (sym (outs_none key i x u h)) ∙ inv in
+pub count_done : (key i b u x t : ℕ) {s : ℕ} → u ≤ x → t + count_below b (outs key i x (u - x)) ≡ s → t ≡ s
+count_done key i b u x t {s} h inv =
+    let r : t + 0 ≡ s = ap (λ (l : List ℕ). t + count_below b l) (sym (outs_none key i x u h)) ∙ inv in
     omega arith
 
 -- ---- an output by its input

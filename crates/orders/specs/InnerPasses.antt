@@ -1,7 +1,7 @@
 -- What the promises of private functions on lists and layers say. No public promise cites this file.
 -- Assumes nothing.
 use Rattle.std.specs.Prelude as rust
-use Rattle.std.specs.Prelude.{Bool, Some, None, cond, List, [], ◌∷◌, ◌++◌, map, ℕ, zero, suc, ◌+◌, ◌^◌, min, ltb, eqb, length, take, drop}
+use Rattle.std.specs.Prelude.{Bool, Some, None, cond, List, [], ◌∷◌, ◌++◌, map, ℕ, zero, suc, ◌+◌, ◌-◌, ◌^◌, min, ltb, eqb, length, take, drop}
 use Rattle.std.proofs.Math.Option.{Option, none, some}
 use Rattle.std.specs.Int.Bits.{bit_or}
 use Rattle.lists.specs.Lists.{keep, below, not_below, count_below, from, up_to, replace}
@@ -10,7 +10,7 @@ use Rattle.orders.specs.declared.consistent_reservoir.ConsistentReservoir.{Consi
 use Rattle.orders.specs.declared.scans.Scan.{Scan}
 use Rattle.orders.specs.declared.scans.Wide.{Wide}
 use Rattle.orders.specs.declared.checks.Survey.{Survey}
-use Rattle.orders.specs.Reservoirs.{counts, outputs, up_to_zeros, wider}
+use Rattle.orders.specs.Reservoirs.{counts, outputs, up_to_zeros, L, wider}
 use Rattle.orders.specs.declared.consistent_reservoir.Exchange.{Exchange}
 use Rattle.orders.specs.ReservoirCalls.{listed, fitting}
 
@@ -19,9 +19,9 @@ abbrev pub outs : ℕ → ℕ → ℕ → ℕ → List ℕ
 outs key i x c = map (layer i key) (from x c)
 
 -- the order of 0..4^m in one piece: the outputs of layer m−1, those below 4^(m−1) replaced, in order, by the order of 0..4^(m−1)
-unfoldable pub place : ℕ → ℕ → List ℕ
-place key zero = 0 ∷ []
-place key (suc j) = replace (below (4 ^ j)) (outputs key j) (place key j)
+unfoldable pub arranged : ℕ → ℕ → List ℕ
+arranged key zero = 0 ∷ []
+arranged key (suc j) = replace (below (4 ^ j)) (outputs key j) (arranged key j)
 
 -- the smallest, at most d
 abbrev pub least : ℕ → List ℕ → ℕ
@@ -61,8 +61,8 @@ unfoldable pub laid_of : ℕ → ℕ → ℕ → List ℕ → List ℕ
 laid_of key i e l = replace (below (4 ^ i)) (outs key i 0 e) l ++ drop e l
 
 -- the first u of the order of 0..4^m over the list
-unfoldable pub placed : ℕ → ℕ → ℕ → List ℕ → List ℕ
-placed key m u l = take u (place key m) ++ drop u l
+unfoldable pub arranged_over : ℕ → ℕ → ℕ → List ℕ → List ℕ
+arranged_over key m u l = take u (arranged key m) ++ drop u l
 
 -- ---- the one pass over the listed numbers
 
@@ -86,3 +86,11 @@ check_of r l = cond (fitting r l) (Some (low_of r.n (listed r l))) None
 -- what an admit that exchanges says
 abbrev pub exchanged : Exchange → Option (ℕ × ℕ)
 exchanged e = some (e.enters, e.leaves)
+
+-- ---- the place from layer to layer
+
+-- A number has place t in what layer i gives: its place in what layer i + c gives. One layer up it stands where that layer's (t+1)-th
+-- output with top bits 00 does.
+unfoldable pub climb : ℕ → ℕ → ℕ → ℕ → ℕ
+climb key i t zero = t
+climb key i t (suc c) = climb key (suc i) (L key (suc i) (suc t) - 1) c

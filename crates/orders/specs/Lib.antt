@@ -5,5 +5,6 @@ pub mod ReservoirCalls
 pub mod RefusedBy
 pub mod Histories
 pub mod Admissions
+pub mod Places
 pub mod InnerPasses
 pub mod InnerCounters

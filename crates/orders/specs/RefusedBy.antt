@@ -16,6 +16,10 @@ order_next_refusals = 12 ∷ 1 ∷ []
 abbrev pub walk_new_refusals : List ℕ
 walk_new_refusals = 12 ∷ 1 ∷ []
 
+-- `place`. 1: "n above 2^30"; 02, §1: "13, the location isn't below n; tested after 1"
+abbrev pub place_refusals : List ℕ
+place_refusals = 1 ∷ 13 ∷ []
+
 -- ---- reservoirs
 
 -- `ConsistentReservoir::new`: "1 n above 2^30", "2 k is 0", "3 k above n", "4 a lent list shorter than what must be written"

@@ -3,7 +3,7 @@ ghost use Rattle.std.specs.Prelude.{◌≡◌, ◌^◌, ◌≤◌, length};
 ghost use Rattle.lists.specs.Lists.{keep, written};
 ghost use Rattle.layers.specs.Layer.{size};
 ghost use Rattle.orders.specs.Reservoirs.{counts};
-ghost use Rattle.orders.specs.InnerPasses.{rank_of, laid_of, placed};
+ghost use Rattle.orders.specs.InnerPasses.{rank_of, laid_of, arranged_over};
 
 use crate::layer::Layer;
 use crate::outputs::Outputs;
@@ -32,7 +32,7 @@ pub(crate) fn cover(outputs: Outputs, t: u32, list: &mut [u32])
 pub(crate) fn lay(m: u32, key: u64, list: &mut [u32])
     requires layer { m ≤ 15 }
     requires size { length list.old ≤ 4 ^ m }
-    ensures { list.new ≡ placed key m (length list.old) list.old }
+    ensures { list.new ≡ arranged_over key m (length list.old) list.old }
 {
     if m == 0 {
         if list.len() == 1 {

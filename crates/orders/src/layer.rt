@@ -1,6 +1,7 @@
 // The fifteen layers by their numbers, 0 to 14.
 ghost use Rattle.std.specs.Prelude.{◌≡◌, ◌^◌, ◌<◌, ◌≤◌, MatchOption};
 ghost use Rattle.layers.specs.Layer.{size, layer};
+ghost use Rattle.layers.specs.Inverses.{input_of};
 ghost use Rattle.orders.specs.Orders.{layer_of};
 
 #[derive(Clone, Copy)]
@@ -54,5 +55,13 @@ impl Layer {
         ensures { result ≡ layer self.number key x }
     {
         layers::layer_apply(self.number, key, x).unwrap()
+    }
+
+    // The input of one output.
+    pub(crate) fn input(self, key: u64, y: u32) -> u32
+        requires { y < size self.number }
+        ensures { result ≡ input_of self.number key y }
+    {
+        layers::layer_invert(self.number, key, y).unwrap()
     }
 }

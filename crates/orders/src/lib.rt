@@ -9,4 +9,5 @@ mod fills;
 mod layer;
 pub mod order_walk;
 mod outputs;
+pub mod place;
 mod scans;

@@ -1,10 +1,10 @@
 // Layers looked through without writing: lengths and the numbers that an admit brings in are known before the first write.
 // Each turn of a pass is without a branch on what it finds, so that the compiler takes several at once.
-ghost use Rattle.std.specs.Prelude.{◌≡◌, ◌+◌, ◌≤◌, ◌<◌, length};
-ghost use Rattle.lists.specs.Lists.{standing};
+ghost use Rattle.std.specs.Prelude.{◌≡◌, ◌+◌, ◌-◌, ◌^◌, ◌≤◌, ◌<◌, length};
+ghost use Rattle.lists.specs.Lists.{below, count_below, up_to, standing};
 ghost use Rattle.layers.specs.Layer.{size};
-ghost use Rattle.orders.specs.Reservoirs.{counts, outputs};
-ghost use Rattle.orders.specs.InnerPasses.{scan_of, rank_of, wide_of};
+ghost use Rattle.orders.specs.Reservoirs.{counts, outputs, L};
+ghost use Rattle.orders.specs.InnerPasses.{outs, scan_of, rank_of, wide_of};
 
 use crate::layer::Layer;
 use crate::outputs::Outputs;
@@ -15,6 +15,13 @@ use crate::outputs::Outputs;
 pub(crate) struct Scan {
     pub(crate) inputs: u32,
     pub(crate) low: u32,
+}
+
+// Where a stretch of inputs begins, and which of the outputs looked for from there on is meant.
+#[derive(Clone, Copy)]
+struct Stretch {
+    input: u32,
+    left: u32,
 }
 
 // The layer that a growth goes to, as the record will have it, and what a scan by top bits 00 finds in it.
@@ -44,17 +51,64 @@ impl Outputs {
         Scan { inputs: size, low }
     }
 
-    // How many of the first u outputs have top bits 00.
-    pub(crate) fn zeros(self, u: u32) -> u32
-        requires { u ≤ size self.layer.number }
-        ensures { result ≡ rank_of self.key self.layer.number u }
+    // How many outputs are below the bound, of the inputs from `from` up to u.
+    pub(crate) fn count_below(self, bound: u32, from: u32, u: u32) -> u32
+        requires { from ≤ u }
+        ensures { result ≡ count_below bound (outs self.key self.layer.number from (u - from)) }
     {
-        let quarter = self.layer.quarter();
         let mut t = 0;
-        for x in 0..u {
-            t += u32::from(self.at(x) < quarter);
+        for x in from..u {
+            t += u32::from(self.at(x) < bound);
         }
         t
+    }
+
+    // How many of the first u outputs have top bits 00.
+    pub(crate) fn zeros(self, u: u32) -> u32
+        ensures { result ≡ rank_of self.key self.layer.number u }
+    {
+        self.count_below(self.layer.quarter(), 0, u)
+    }
+
+    // In which stretch of inputs the k-th output with top bits 00 is: stretches before it are counted whole.
+    fn stretch(self, k: u32) -> Stretch
+        ensures within { result.input ≤ size self.layer.number }
+        ensures length { result.input + length (up_to (below (4 ^ self.layer.number)) result.left (outs self.key self.layer.number result.input (size self.layer.number - result.input))) ≡ L self.key self.layer.number k }
+    {
+        let quarter = self.layer.quarter();
+        let count = self.layer.size() / 256;
+        let mut left = k;
+        for s in 0..count {
+            let zeros = self.count_below(quarter, 256 * s, 256 * s + 256);
+            if left <= zeros {
+                return Stretch {
+                    input: 256 * s,
+                    left,
+                };
+            }
+            left -= zeros;
+        }
+        Stretch {
+            input: 256 * count,
+            left,
+        }
+    }
+
+    // The inputs up to and with the k-th output with top bits 00.
+    pub(crate) fn inputs_to_zero(self, k: u32) -> u32
+        ensures { result ≡ L self.key self.layer.number k }
+    {
+        let quarter = self.layer.quarter();
+        let size = self.layer.size();
+        let at = self.stretch(k);
+        let mut left = at.left;
+        for x in at.input..size {
+            if left == 0 {
+                return x;
+            }
+            left -= u32::from(self.at(x) < quarter);
+        }
+        size
     }
 
     // How many of the first u outputs stand when last ones above v are dropped while more than k stand.

@@ -6,6 +6,7 @@ pub mod RefusedLaws
 pub mod FormLaws
 pub mod MadeLaws
 pub mod MoveLaws
+pub mod PlanPlaceLaws
 pub mod SheetLaws
 pub mod Demand3Laws
 pub mod ReplyLaws

@@ -37,10 +37,10 @@ use Rattle.rounds.proofs.PlanLaws.{own_plan}
 -- ---- a round so reached
 
 -- its plan is by its key, k, n and active slots
-abbrev plan_by : State → List ℕ → Answer (List Sheet)
+abbrev pub plan_by : State → List ℕ → Answer (List Sheet)
 plan_by s A = plan_from s.round.master_key s.round.k s.round.n A
 
-plan_by_lem : (s : State) → Kept s → (p : Answer (List Sheet)) → PlanOf s p → p ≡ plan_by s (actives_of s)
+pub plan_by_lem : (s : State) → Kept s → (p : Answer (List Sheet)) → PlanOf s p → p ≡ plan_by s (actives_of s)
 plan_by_lem s kept p h = sym h.is ∙ ap (shown_plan s.round.k) h.promise ∙ own_plan s kept h.ls h.ts h.places h.enough
 
 -- "Rounds so reached and alike in these four have the same plan."

@@ -5,6 +5,7 @@ pub mod Plans
 pub mod Sheets
 pub mod Histories
 pub mod Demand3
+pub mod PlanPlaces
 pub mod Outcomes
 pub mod Fleets
 pub mod Calls

@@ -4,7 +4,7 @@ use mathlib.Core.Path.{◌≡◌, sym, ◌∙◌}
 use Prim.Native.Nat.{◌+◌, ◌-◌, ◌<◌}
 use native.Mathlib.Omega.{arith}
 use lib.ListN.{length}
-use Rattle.choosers.specs.InnerPlaces.{low, lows}
+use Rattle.choosers.specs.InnerHolding.{low, lows}
 use Rattle.choosers.proofs.HoldingLaws.{sample_at}
 use Rattle.choosers.proofs.LookupLaws.{rises_S, below_S}
 use Rattle.choosers.proofs.LookLaws.{Grown, grow_next}
@@ -24,7 +24,7 @@ grown c =
     grow_next _ _ _ (lows c.args.scratch.now) (omega (arith, r.some, r.few)) r.stands.0 (lows c.grow-i.new.list) _ c.grow-i.ensures.grown
 
 inside : (c : After-grow-i) → c.grow-i.result < length c.grow-i.new.list
-inside c = omega (arith, (grown c).place_in, c.grow-i.auto.list, c.requires.some)
+inside c = omega (arith, (grown c).enters_in, c.grow-i.auto.list, c.requires.some)
 
 pub offset_bounds-scratch-i : goal.offset_bounds-scratch-i
 offset_bounds-scratch-i c = omega (arith, inside (goal.at.offset_bounds-scratch-i c).After-grow-i)

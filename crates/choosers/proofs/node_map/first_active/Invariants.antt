@@ -1,6 +1,6 @@
 -- `choosers::node_map::first_active` meets its contract.
 -- Assumes nothing.
-use Rattle.choosers.specs.InnerPlaces.{Stands}
+use Rattle.choosers.specs.InnerHolding.{Stands}
 use mathlib.Core.Path.{◌≡◌}
 use lib.ListN.{length}
 use Rattle.choosers.specs.Slots.{active}

@@ -6,8 +6,8 @@ use Prim.Native.Nat.{ℕ, ◌-◌, ◌^◌, ◌≤◌}
 use native.Mathlib.Omega.{arith}
 use lib.ListN.{length, drop}
 use lib.Seq.{length-take-le}
-use Rattle.orders.specs.InnerPasses.{rank_of, placed}
-use Rattle.orders.proofs.PlacedLaws.{one_le, down_le, start_yes, start_no, length_placed, placed_front, lay_none, lay_more}
+use Rattle.orders.specs.InnerPasses.{rank_of, arranged_over}
+use Rattle.orders.proofs.LayLaws.{one_le, down_le, start_yes, start_no, length_arranged_over, arranged_front, lay_none, lay_more}
 use Rattle.orders.proofs.fills.+lay.Goals as goal
 use Rattle.orders.proofs.fills.+lay.Goals.{After-zeros-t}
 
@@ -40,7 +40,7 @@ pub returns : goal.returns
 returns t c =
     let e = c.new-outputs.ensures in
     let d = few t (goal.at.returns t c).After-zeros-t c.if-m-eq0.false in
-    let laid : c.lay.new.list ++ drop c.zeros-t.result c.args.list.now ≡ placed c.args.key (c.args.m - 1) c.zeros-t.result c.args.list.now =
-    ap (λ (l : List ℕ). l ++ drop c.zeros-t.result c.args.list.now) c.lay.ensures ∙ placed_front _ _ _ _ d.1 in
-    rw (e.layer, e.key, laid, length_placed c.args.key (c.args.m - 1) c.zeros-t.result c.args.list.now d.0 d.1) at c.cover.ensures
+    let laid : c.lay.new.list ++ drop c.zeros-t.result c.args.list.now ≡ arranged_over c.args.key (c.args.m - 1) c.zeros-t.result c.args.list.now =
+    ap (λ (l : List ℕ). l ++ drop c.zeros-t.result c.args.list.now) c.lay.ensures ∙ arranged_front _ _ _ _ d.1 in
+    rw (e.layer, e.key, laid, length_arranged_over c.args.key (c.args.m - 1) c.zeros-t.result c.args.list.now d.0 d.1) at c.cover.ensures
     ∙ lay_more _ _ _ _ _ c.if-m-eq0.false c.requires.size (rank_is t (goal.at.returns t c).After-zeros-t)

@@ -7,7 +7,7 @@ use lib.Seq.{length-take-le}
 use Rattle.std.proofs.lemmas.Result.{err_from_is_err_and}
 use Rattle.answers.proofs.MakingLaws.{Sizes, sizes_yes}
 use Rattle.orders.specs.InnerPasses.{scan_of}
-use Rattle.orders.proofs.PlacedLaws.{placed_front}
+use Rattle.orders.proofs.LayLaws.{arranged_front}
 use Rattle.orders.proofs.OpenLaws.{open_no, open_few, open_fit, open_refused, open_done}
 use Rattle.orders.proofs.consistent_reservoir.ConsistentReservoir.new.Goals as goal
 use Rattle.orders.proofs.consistent_reservoir.ConsistentReservoir.new.Goals.{After-scan-used, Then-list-k, In_ok-test_sizes}
@@ -46,7 +46,7 @@ pub returns : goal.returns
 returns c =
     let a = c.args in
     let at = goal.at.returns c in
-    rw (c.lay.ensures, placed_front _ _ _ a.list.now c.if-list-used.false)
+    rw (c.lay.ensures, arranged_front _ _ _ a.list.now c.if-list-used.false)
     (open_done a.key a.k a.n a.list.now (sizes at.In_ok-test_sizes) _ c.of-layer.ensures _ (scan_is at.After-scan-used) (omega arith))
 
 pub of-layer-requires : goal.of-layer-requires

@@ -16,7 +16,7 @@ use Rattle.lists.proofs.Inserting.{insert_at, insert_at_snoc, insert_at_end, ins
 use Rattle.lists.proofs.Listing.{listing_agree}
 use Rattle.choosers.specs.Choosers.{g, largest_g, S, Q}
 use Rattle.choosers.proofs.SampleLaws.{g_lt, g_ge, g_same, top_lt, top_ge, top_same, length_S}
-use Rattle.choosers.proofs.LoweringLaws.{place, place_end, place_mid, place_le, S_end, S_mid, S_open}
+use Rattle.choosers.proofs.LoweringLaws.{enters_at, enters_end, enters_mid, enters_le, S_end, S_mid, S_open}
 
 -- the member of S(k+1, n) that S(k, n) lacks
 unfoldable pub new : ℕ → ℕ → ℕ → ℕ
@@ -32,23 +32,23 @@ module _ (s : ℕ) where
   unfolding new
   new_mid k n p = rw (le-ltb (largest_g s (suc k) n) (g s (suc k) n) p)
 
-  S_one : (n : ℕ) → S s 1 n ≡ insert_at (S s 0 n) (place s 0 n) (new s 0 n)
-  unfolding S largest_g insert_at place new
+  S_one : (n : ℕ) → S s 1 n ≡ insert_at (S s 0 n) (enters_at s 0 n) (new s 0 n)
+  unfolding S largest_g insert_at enters_at new
   S_one n = rw zero-max
 
-  pub S_insert : (k n : ℕ) → k < n → S s (suc k) n ≡ insert_at (S s k n) (place s k n) (new s k n)
+  pub S_insert : (k n : ℕ) → k < n → S s (suc k) n ≡ insert_at (S s k n) (enters_at s k n) (new s k n)
   S_insert zero n h = S_one n
   S_insert (suc j) n h =
       by_below (largest_g s (suc j) n) (g s (suc j) n)
-      (λ p. rw (place_end s j n p, new_end j n p, S_end s (suc j) n h p, insert_at_end (S s (suc j) n) (suc j) (g s (suc j) n) (length_S s (suc j) n)))
+      (λ p. rw (enters_end s j n p, new_end j n p, S_end s (suc j) n h p, insert_at_end (S s (suc j) n) (suc j) (g s (suc j) n) (length_S s (suc j) n)))
       (λ p. let c : ℕ = largest_g s (suc j) n in
       rw (
-        place_mid s j n p,
+        enters_mid s j n p,
         new_mid j n p,
         S_mid s (suc j) n p,
         S_open s j n,
         S_insert j c (omega (arith, g_ge s (suc j) n)),
-        insert_at_snoc (S s j c) c (place s j c) (new s j c) (omega (arith, length_S s j c, place_le s j c)),
+        insert_at_snoc (S s j c) c (enters_at s j c) (new s j c) (omega (arith, length_S s j c, enters_le s j c)),
       ))
 
   -- the number put in is below n
@@ -85,7 +85,7 @@ module _ (s : ℕ) where
   -- every member of S(k, n) is one of S(k+1, n)
   pub S_within : (k n v : ℕ) → k < n → occurrences v (S s k n) ≤ occurrences v (S s (suc k) n)
   S_within k n v h =
-      rw (S_insert k n h, occurrences_insert_at v (S s k n) (place s k n) (new s k n))
+      rw (S_insert k n h, occurrences_insert_at v (S s k n) (enters_at s k n) (new s k n))
       (by_test (same v (new s k n)) (λ y. rw y (omega arith)) (λ m. rw m (omega arith)))
 
   -- the number put in did not stand there
@@ -96,21 +96,21 @@ module _ (s : ℕ) where
         arith,
         S_once (suc k) n x h,
         ap (occurrences x) (S_insert k n h),
-        occurrences_insert_at x (S s k n) (place s k n) x,
+        occurrences_insert_at x (S s k n) (enters_at s k n) x,
         ap (λ (b : Bool). more b (occurrences x (S s k n))) (same_yes x x refl),
       )
 
   -- so it is the member that S(k, n) lacks, and what Q lists
   pub new_lacked : (k n : ℕ) → k < n → lacked (S s (suc k) n) (S s k n) ≡ new s k n
-  new_lacked k n h = rw (S_insert k n h) (lacked_insert_at (S s k n) (S s k n) (place s k n) (new s k n) (λ v q. q) (new_fresh k n h))
+  new_lacked k n h = rw (S_insert k n h) (lacked_insert_at (S s k n) (S s k n) (enters_at s k n) (new s k n) (λ v q. q) (new_fresh k n h))
 
   pub Q_new : (n : ℕ) → Q s n ≡ map (λ t. new s t n) (zero_to n)
   unfolding Q
   Q_new n = listing_agree (λ t. lacked (S s (suc t) n) (S s t n)) (λ t. new s t n) n (λ t h. new_lacked t n h)
 
   -- it stands at its place
-  pub place_new : (k n : ℕ) → k < n → get_or (S s (suc k) n) (place s k n) 0 ≡ new s k n
-  place_new k n h = rw (S_insert k n h) (insert_at_at (S s k n) (place s k n) (new s k n) (omega (arith, length_S s k n, place_le s k n)))
+  pub enters_new : (k n : ℕ) → k < n → get_or (S s (suc k) n) (enters_at s k n) 0 ≡ new s k n
+  enters_new k n h = rw (S_insert k n h) (insert_at_at (S s k n) (enters_at s k n) (new s k n) (omega (arith, length_S s k n, enters_le s k n)))
 
   -- where every g(i, n) for i up to k is below m, it is the same for m
   pub new_same : (k m n : ℕ) → k < m → m ≤ n → ((i : ℕ) → i ≤ k → g s i n < m) → new s k m ≡ new s k n
