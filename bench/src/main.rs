@@ -93,6 +93,15 @@ fn layers() {
             &format!("layer {layer} over its {n} inputs"),
             measure(turns * u64::from(n), ours, theirs),
         );
+        let undone = || {
+            (0..turns).fold(0, |s, t| {
+                s ^ u64::from(proved::input_xors(KEY ^ t, layer, n).unwrap())
+            })
+        };
+        report_alone(
+            &format!("layer {layer} undone over its {n} outputs"),
+            measure_alone(turns * u64::from(n), undone),
+        );
     }
     for layer in [0, 3, 14] {
         let n = 1u32 << (2 * layer + 2).min(20);
@@ -105,6 +114,11 @@ fn layers() {
         report(
             &format!("layer_apply of layer {layer}, one call each"),
             measure(turns * u64::from(n), ours, theirs),
+        );
+        let undone = || runs(&|y| proved::layer_invert(KEY, layer, y).unwrap());
+        report_alone(
+            &format!("layer_invert of layer {layer}, one call each"),
+            measure_alone(turns * u64::from(n), undone),
         );
     }
 }

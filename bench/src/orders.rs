@@ -1,6 +1,6 @@
 //! Orders: many numbers, in one call of the library and a call each.
 
-use oracle::ConsistentPermutation;
+use oracle::{ConsistentPermutation, Draws};
 
 use crate::{measure, measure_alone, report, report_alone, KEY};
 
@@ -9,6 +9,15 @@ const SIZES: [(&str, u32, u64, u32); 3] = [
     ("1000", 1000, 500, 1000),
     ("10^7", 10_000_000, 1, 500_000),
     ("2^30", 1 << 30, 1, 500_000),
+];
+
+/// How large n is, n, and how many locations, so many that all layers' are among them.
+const PLACES: [(&str, u32, u64); 5] = [
+    ("1000", 1000, 4000),
+    ("10^5", 100_000, 60),
+    ("10^7", 10_000_000, 8),
+    ("2^20", 1 << 20, 24),
+    ("2^24", 1 << 24, 8),
 ];
 
 #[inline(never)]
@@ -55,6 +64,37 @@ pub fn all() {
         compared("a call each", our_by_calls, by_calls);
     }
     tested();
+    for (size, n, locations) in PLACES {
+        places(size, n, locations);
+    }
+}
+
+/// The places of locations, each under a key of its own, and the original's iterator run to each.
+fn places(size: &str, n: u32, locations: u64) {
+    let mut draws = Draws(u64::from(n));
+    let asked: Vec<_> = (0..locations)
+        .map(|_| (draws.next(), draws.below(n.into()) as u32))
+        .collect();
+    let sum = |f: &dyn Fn(u64, u32) -> u32| {
+        asked
+            .iter()
+            .map(|&(key, location)| u64::from(f(key, location)))
+            .sum()
+    };
+    report(
+        &format!("place in the order of {size}"),
+        measure(
+            locations,
+            || sum(&|key, location| proved::place(key, n, location).unwrap()),
+            || sum(&|key, location| position(key, n, location)),
+        ),
+    );
+}
+
+#[inline(never)]
+fn position(key: u64, n: u32, location: u32) -> u32 {
+    let mut order = ConsistentPermutation::new(n, key);
+    order.position(|x| x == location).unwrap() as u32
 }
 
 /// With n = 0 a call reads the record, tests the fifteen counters and is done.

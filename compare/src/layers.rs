@@ -42,7 +42,47 @@ pub fn layer_xors(draws: &mut Draws) -> Option<String> {
     )
 }
 
-/// By document 01, since the original tests neither the layer nor the input.
+/// The inverse by the original's layer: it takes an output back to the input.
+pub fn layer_invert(draws: &mut Draws) -> Option<String> {
+    let layer = draws.below(15) as u32;
+    let key = word(draws);
+    let x = below(draws, 1 << (2 * layer + 2));
+    let y = oracle::layer_apply(layer, key, x);
+    differ(
+        format!("layer {layer} key {key:#x} y {y}"),
+        proved::layer_invert(key, layer, y),
+        Ok(x),
+    )
+}
+
+/// The same over all outputs of a layer, 0 to 6, one by one and, by a record made once, the first of them xored.
+pub fn all_inputs(draws: &mut Draws) -> Option<String> {
+    let layer = draws.below(7) as u32;
+    let key = word(draws);
+    let size = 1 << (2 * layer + 2);
+    let n = draws.below(u64::from(size) + 1) as u32;
+    let ys: Vec<u32> = (0..size)
+        .map(|x| oracle::layer_apply(layer, key, x))
+        .collect();
+    let first = (0..size).filter(|&x| ys[x as usize] < n);
+    let theirs = (
+        (0..size).map(Ok).collect::<Vec<_>>(),
+        Ok(first.fold(0, |sum, x| sum ^ x)),
+    );
+    let ours = (
+        ys.iter()
+            .map(|&y| proved::layer_invert(key, layer, y))
+            .collect(),
+        proved::input_xors(key, layer, n),
+    );
+    differ(
+        format!("layer {layer} key {key:#x}, and over 0..{n}"),
+        ours,
+        theirs,
+    )
+}
+
+/// By the documents, since the original tests neither the layer nor the input, and has no inverse.
 pub fn refusals(draws: &mut Draws) -> Option<String> {
     let key = word(draws);
     let (layer, x) = if draws.below(2) == 0 {
@@ -51,17 +91,15 @@ pub fn refusals(draws: &mut Draws) -> Option<String> {
         let layer = draws.below(15) as u32;
         (layer, (word(draws) as u32).max(1 << (2 * layer + 2)))
     };
+    let n = x.saturating_add(1);
     differ(
-        format!("layer {layer} key {key:#x} x {x}"),
-        proved::layer_apply(key, layer, x),
-        Err(Refused(12)),
-    )
-    .or_else(|| {
-        let n = x.saturating_add(1);
-        differ(
-            format!("layer {layer} key {key:#x} over 0..{n}"),
+        format!("layer {layer} key {key:#x} number {x}, and over 0..{n}"),
+        [
+            proved::layer_apply(key, layer, x),
+            proved::layer_invert(key, layer, x),
             proved::layer_xors(key, layer, n),
-            Err(Refused(12)),
-        )
-    })
+            proved::input_xors(key, layer, n),
+        ],
+        [Err(Refused(12)); 4],
+    )
 }

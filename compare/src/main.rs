@@ -29,13 +29,14 @@ use proved::Refused;
 type Trial = fn(&mut Draws) -> Option<String>;
 
 /// A call, how many of 100 inputs go to it, and the trial.
-const CALLS: [(&str, u64, Trial); 39] = [
+const CALLS: [(&str, u64, Trial); 42] = [
     ("wrapping_mul", 1, words::wrapping_mul),
     ("rotate_right", 1, words::rotate_right),
     ("splitmix64", 1, words::splitmix64),
-    ("layer_apply", 6, layers::layer_apply),
+    ("layer_apply", 4, layers::layer_apply),
     ("KeyedLayer, over 0..n", 2, layers::layer_xors),
-    ("layer_apply, refusals", 2, layers::refusals),
+    ("layer_invert", 2, layers::layer_invert),
+    ("layers, refusals", 2, layers::refusals),
     ("seq_builder", 1, hashes::seq_builder),
     ("prev", 6, hashes::prev),
     ("into_prev", 2, hashes::into_prev),
@@ -45,10 +46,12 @@ const CALLS: [(&str, u64, Trial); 39] = [
     ("falling walk, digested", 1, hashes::falling_digest),
     ("rising walk, digested", 1, hashes::rising_digest),
     ("hashes, refusals", 2, hashes::refusals),
-    ("orders, step by step", 8, orders::steps),
+    ("orders, step by step", 6, orders::steps),
     ("orders, digested", 2, orders::digest),
     ("orders made by hand", 4, orders::handmade),
     ("orders, refusals", 1, orders::refusals),
+    ("place", 1, orders::place),
+    ("place, refusals", 1, orders::place_refusals),
     ("reservoirs, opened and followed", 6, reservoirs::histories),
     ("reservoirs made by hand", 4, reservoirs::handmade),
     ("reservoirs, refusals", 1, reservoirs::refusals),
@@ -81,8 +84,9 @@ const CALLS: [(&str, u64, Trial); 39] = [
 
 /// What is compared besides, and how many inputs of it to a million of those. The program has a process of its own for each input, so few
 /// of them.
-const BESIDES: [(&str, u64, Trial); 3] = [
+const BESIDES: [(&str, u64, Trial); 4] = [
     ("the line program, whole inputs", 200, lines::inputs),
+    ("layer_invert, all of a layer", 1_000, layers::all_inputs),
     (
         "rising, where the original skips its start",
         10_000,

@@ -64,6 +64,39 @@ pub fn digest(draws: &mut Draws) -> Option<String> {
     )
 }
 
+/// A place against the position in the original's order: of a location, of an n up to 100,000.
+pub fn place(draws: &mut Draws) -> Option<String> {
+    let n = match draws.below(4) {
+        0 => 1 + draws.below(70),
+        1 => (1 << (2 * draws.below(9))) + draws.below(2),
+        _ => 1 + (draws.below(100_000) >> draws.below(17)),
+    } as u32;
+    let key = word(draws);
+    let location = draws.below(n.into()) as u32;
+    let theirs = Order::new(n, key).position(|x| x == location);
+    differ(
+        format_args!("n {n} key {key:#x} location {location}"),
+        proved::place(key, n, location).map(|place| Some(place as usize)),
+        Ok(theirs),
+    )
+}
+
+/// By document 02: 1 comes first, then 13.
+pub fn place_refusals(draws: &mut Draws) -> Option<String> {
+    let (n, high, key) = (any_n(draws), above_limit(draws), word(draws));
+    let (any, no_location) = (word(draws) as u32, (word(draws) as u32).max(n));
+    differ(
+        format_args!("n {n} or {high} key {key:#x} location {no_location} or {any}"),
+        [
+            proved::place(key, high, any),
+            proved::place(key, n, no_location),
+            proved::place(key, n, n),
+            proved::place(key, 0, any),
+        ],
+        [1, 13, 13, 13].map(|c| Err(Refused(c))),
+    )
+}
+
 /// A counter of a layer: at its ends, now and then above its size, or any.
 fn counter(draws: &mut Draws, j: u32) -> u32 {
     let size = u64::from(size(j));

@@ -77,8 +77,8 @@ fn inputs(size: u64, draws: &mut Draws) -> Vec<u64> {
     chosen
 }
 
-fn layer_case(layer: u32, key: u64, x: u64, said: u64) -> Case {
-    Case::of("layer_apply", &[key, layer.into(), x], said)
+fn layer_case(name: &'static str, layer: u32, key: u64, x: u64, said: u64) -> Case {
+    Case::of(name, &[key, layer.into(), x], said)
 }
 
 fn layers() -> Vec<Case> {
@@ -88,26 +88,34 @@ fn layers() -> Vec<Case> {
         for key in keys(4, &mut draws) {
             for x in inputs(1 << (2 * layer + 2), &mut draws) {
                 let y = layer_apply(layer, key, x as u32);
-                cases.push(layer_case(layer, key, x, y.into()));
+                cases.push(layer_case("layer_apply", layer, key, x, y.into()));
+                cases.push(layer_case("layer_invert", layer, key, y.into(), x));
             }
         }
     }
     cases
 }
 
-/// Refusal 12 of a layer, by document 01, since the original tests neither the layer nor the input.
+/// Refusal 12 of a layer and of its inverse, by the documents, since the original tests neither the layer nor the input and has no inverse.
 fn layer_refusals() -> Vec<Case> {
-    let refused = (1u64 << 63) + 12;
+    let refused = coded(Err(12));
     let mut cases = Vec::new();
+    let mut refuses = |layer: u32, key, x: u64| {
+        for name in ["layer_apply", "layer_invert"] {
+            cases.push(layer_case(name, layer, key, x, refused));
+        }
+    };
     for key in KEYS {
         for layer in [15, 16, 31, 1 << 31, u32::MAX] {
-            let inputs = [0, 1, u32::MAX.into()];
-            cases.extend(inputs.map(|x| layer_case(layer, key, x, refused)));
+            for x in [0, 1, u32::MAX.into()] {
+                refuses(layer, key, x);
+            }
         }
         for layer in 0..15u32 {
             let size = 1u64 << (2 * layer + 2);
-            let inputs = [size, size + 1, u32::MAX.into()];
-            cases.extend(inputs.map(|x| layer_case(layer, key, x, refused)));
+            for x in [size, size + 1, u32::MAX.into()] {
+                refuses(layer, key, x);
+            }
         }
     }
     cases
@@ -127,6 +135,14 @@ type Set = (&'static str, &'static str, fn() -> Vec<Case>);
 
 const ORIGINAL: &str = "consistent-choose-k of github/rust-gems 9804c5bc17, built in release";
 
+const ORIGINAL_UNDONE: &str =
+    "consistent-choose-k of github/rust-gems 9804c5bc17, built in release; \
+    a layer's inverse takes its output back to the input";
+
+const ORIGINAL_AND_PLACES: &str =
+    "consistent-choose-k of github/rust-gems 9804c5bc17, built in release; \
+    a place is a location's position in its iterator";
+
 const ORIGINAL_IN_LISTS: &str =
     "consistent-choose-k of github/rust-gems 9804c5bc17, built in release; \
     refusal 4 is document 01's, for a list shorter than what the original ends with";
@@ -141,18 +157,18 @@ const ORIGINAL_IN_ROUNDS: &str =
 
 const SETS: [Set; 13] = [
     ("mix", ORIGINAL, mix),
-    ("layers", ORIGINAL, layers),
+    ("layers", ORIGINAL_UNDONE, layers),
     ("hashes", ORIGINAL, hash_sets::hashes),
     (
         "rising_starts",
         "document 02, §4, by the hashes that the original's falling walk from 2^63 gives, since the original's rising walk skips these starts",
         hash_sets::rising_starts,
     ),
-    ("orders", ORIGINAL, order_sets::orders),
+    ("orders", ORIGINAL_AND_PLACES, order_sets::orders),
     ("reservoirs", ORIGINAL_IN_LISTS, reservoir_sets::reservoirs),
     (
         "refusals",
-        "document 01, since the original does not refuse",
+        "documents 01 and 02, since the original does not refuse",
         refusals,
     ),
     (

@@ -72,6 +72,18 @@ pub fn layer_xors(key: u64, layer: u32, n: u32) -> Result<u32, Refused> {
     decoded_word(raw::layer_xors(key, layer, n))
 }
 
+/// The input of a layer whose output is y.
+#[inline]
+pub fn layer_invert(key: u64, layer: u32, y: u32) -> Result<u32, Refused> {
+    decoded_word(raw::layer_invert(key, layer, y))
+}
+
+/// The inputs of a layer whose outputs are 0..n, xored.
+#[inline]
+pub fn input_xors(key: u64, layer: u32, n: u32) -> Result<u32, Refused> {
+    decoded_word(raw::input_xors(key, layer, n))
+}
+
 /// The state of the i-th sequence.
 pub fn seq_builder(state: u64, i: u64) -> u64 {
     raw::seq_builder(state, i)
@@ -126,6 +138,12 @@ pub fn order_next(order: &mut [u32]) -> Result<Option<u32>, Refused> {
 /// The numbers of an order's first `count` calls, digested as the oracle does it.
 pub fn order_digest(key: u64, n: u32, count: u32) -> Result<u64, Refused> {
     decoded_number(raw::order_digest(key, n, count))
+}
+
+/// The place of a location in the order of 0..n.
+#[inline]
+pub fn place(key: u64, n: u32, location: u32) -> Result<u32, Refused> {
+    decoded_word(raw::place(key, n, location))
 }
 
 /// A new reservoir in a list, and in the first six words lent: the key's low half and high half, k, n, the layer, the used
