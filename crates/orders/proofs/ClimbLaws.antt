@@ -4,7 +4,7 @@ use mathlib.Core.Path.{◌≡◌, refl, sym, ap, ◌∙◌, subst, fun_ext}
 use mathlib.Core.Bool.{Bool}
 use mathlib.Core.List.{List, [], ◌∷◌}
 use Prim.Native.Nat.{ℕ, zero, suc, ◌+◌, ◌-◌, ◌^◌, ◌≤◌, ◌<◌}
-use native.Mathlib.Nat.{le_refl}
+use native.Mathlib.Nat.{le_refl, one-le-pow}
 use native.Mathlib.Omega.{arith}
 use lib.ListN.{length, take, get_or}
 use lib.Seq.{length-take-le}
@@ -27,7 +27,7 @@ use Rattle.orders.specs.InnerPasses.{arranged, climb}
 use Rattle.orders.specs.Places.{place}
 use Rattle.orders.proofs.LogLaws.{size_suc, layer_low, layer_fits, layer_least, layer_quarter}
 use Rattle.orders.proofs.OrderLaws.{arranged_order, outputs_order, low_outputs, P_at}
-use Rattle.orders.proofs.ZeroLaws.{pow_pos_4, zeros_below}
+use Rattle.orders.proofs.ZeroLaws.{zeros_below}
 
 -- ---- lists
 
@@ -93,7 +93,7 @@ module _ (key : ℕ) where
   own_place : (i v : ℕ) → 4 ^ i ≤ v → v < 4 ^ suc i → at (suc i) v ≡ input_of i key v
   unfolding arranged
   own_place i v lo hi =
-      position_others (below (4 ^ i)) v (below_no v (4 ^ i) lo) (below_yes 0 (4 ^ i) (pow_pos_4 i)) (outputs key i) (arranged key i) (all_arranged i)
+      position_others (below (4 ^ i)) v (below_no v (4 ^ i) lo) (below_yes 0 (4 ^ i) (one-le-pow i 4 (omega arith))) (outputs key i) (arranged key i) (all_arranged i)
       ∙ own_input i v (omega (arith, size_suc i))
 
   -- and 0 stands at the 00 output of layer 0

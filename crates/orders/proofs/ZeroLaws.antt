@@ -5,14 +5,14 @@ use mathlib.Core.Path.{◌≡◌, refl, sym, ap, ◌∙◌}
 use mathlib.Core.Bool.{Bool}
 use mathlib.Core.List.{List, [], ◌∷◌, ◌++◌}
 use Prim.Native.Nat.{ℕ, zero, suc, ◌+◌, ◌-◌, ◌^◌, ◌<◌, ◌≤◌}
-use native.Mathlib.Nat.{add-zero}
+use native.Mathlib.Nat.{add-zero, one-le-pow}
 use native.Mathlib.Omega.{arith}
 use lib.ListN.{length, length-take}
 use Rattle.lists.specs.Lists.{below, count_below, up_to}
 use Rattle.lists.proofs.Prefixes.{up_to_take, up_to_past}
 use Rattle.layers.specs.Layer.{size, layer}
 use Rattle.orders.specs.Reservoirs.{outputs, up_to_zeros, L}
-use Rattle.orders.specs.InnerPasses.{outs, climb}
+use Rattle.orders.specs.InnerPasses.{outs, inputs_from, climb}
 use Rattle.orders.specs.Orders.{zero_top}
 use Rattle.orders.proofs.LogLaws.{size_suc}
 use Rattle.orders.proofs.OrderLaws.{zero_top_lem, outputs_order}
@@ -27,10 +27,6 @@ outs_append key i x (suc a) b =
     let n : suc a + b ≡ suc (a + b) = omega arith in
     ap (outs key i x) n ∙ ap (λ (l : List ℕ). layer i key x ∷ l) (outs_append key i (suc x) a b ∙ ap (λ (y : ℕ). outs key i (suc x) a ++ outs key i y b) e)
 
-pub pow_pos_4 : (i : ℕ) → 0 < 4 ^ i
-pow_pos_4 zero = omega arith
-pow_pos_4 (suc i) = omega (arith, pow_pos_4 i)
-
 some_up_to : (p : ℕ → Bool) (k : ℕ) (xs : List ℕ) → 0 < length xs → 0 < length (up_to p (suc k) xs)
 some_up_to p k [] h = h
 some_up_to p k (x ∷ xs) h = omega arith
@@ -41,14 +37,14 @@ module _ (key i : ℕ) where
   unfolding up_to_zeros
   zeros_below k = ap (λ (p : ℕ → Bool). length (up_to p k (outputs key i))) (zero_top_lem i)
 
-  pub zeros_start : (k : ℕ) → 0 + length (up_to (below (4 ^ i)) k (outs key i 0 (size i - 0))) ≡ L key i k
+  pub zeros_start : (k : ℕ) → inputs_from key i 0 k ≡ L key i k
   zeros_start k =
       let e : size i - 0 ≡ size i = omega arith in
       rw e (omega (arith, zeros_below k))
 
   -- a stretch of w inputs with fewer of them
   pub stretch_past : (w l x c x' : ℕ) {s : ℕ} → x' ≡ x + w → x' ≤ size i → c ≡ count_below (4 ^ i) (outs key i x w) → c < l
-      → x + length (up_to (below (4 ^ i)) l (outs key i x (size i - x))) ≡ s → x' + length (up_to (below (4 ^ i)) (l - c) (outs key i x' (size i - x'))) ≡ s
+      → inputs_from key i x l ≡ s → inputs_from key i x' (l - c) ≡ s
   stretch_past w l x c x' {s} ex h ez f inv =
       let p = below (4 ^ i) in
       let n : size i - x ≡ w + (size i - x') = omega arith in
@@ -61,7 +57,7 @@ module _ (key i : ℕ) where
   -- there is at least one input, and they are no more than the layer has
   pub some_inputs : (k : ℕ) → 0 < L key i (suc k)
   unfolding up_to_zeros
-  some_inputs k = some_up_to (zero_top i) k (outputs key i) (omega (arith, (outputs_order key i).size, pow_pos_4 i))
+  some_inputs k = some_up_to (zero_top i) k (outputs key i) (omega (arith, (outputs_order key i).size, one-le-pow i 4 (omega arith)))
 
   pub inputs_fit : (k : ℕ) → L key i k ≤ size i
   unfolding up_to_zeros

@@ -5,7 +5,7 @@ use Rattle.std.specs.Prelude.{Bool, Some, None, cond, List, [], ◌∷◌, ◌++
 use Rattle.std.proofs.Math.Option.{Option, none, some}
 use Rattle.std.specs.Int.Bits.{bit_or}
 use Rattle.lists.specs.Lists.{keep, below, not_below, count_below, from, up_to, replace}
-use Rattle.layers.specs.Layer.{layer}
+use Rattle.layers.specs.Layer.{size, layer}
 use Rattle.orders.specs.declared.consistent_reservoir.ConsistentReservoir.{ConsistentReservoir}
 use Rattle.orders.specs.declared.scans.Scan.{Scan}
 use Rattle.orders.specs.declared.scans.Wide.{Wide}
@@ -86,6 +86,10 @@ check_of r l = cond (fitting r l) (Some (low_of r.n (listed r l))) None
 -- what an admit that exchanges says
 abbrev pub exchanged : Exchange → Option (ℕ × ℕ)
 exchanged e = some (e.enters, e.leaves)
+
+-- the inputs of layer i up to and with the l-th output with top bits 00 from the input x on
+abbrev pub inputs_from : ℕ → ℕ → ℕ → ℕ → ℕ
+inputs_from key i x l = x + length (up_to (below (4 ^ i)) l (outs key i x (size i - x)))
 
 -- ---- the place from layer to layer
 

@@ -1,10 +1,10 @@
 // Layers looked through without writing: lengths and the numbers that an admit brings in are known before the first write.
 // Each turn of a pass is without a branch on what it finds, so that the compiler takes several at once.
-ghost use Rattle.std.specs.Prelude.{◌≡◌, ◌+◌, ◌-◌, ◌^◌, ◌≤◌, ◌<◌, length};
-ghost use Rattle.lists.specs.Lists.{below, count_below, up_to, standing};
+ghost use Rattle.std.specs.Prelude.{◌≡◌, ◌+◌, ◌-◌, ◌≤◌, ◌<◌, length};
+ghost use Rattle.lists.specs.Lists.{count_below, standing};
 ghost use Rattle.layers.specs.Layer.{size};
 ghost use Rattle.orders.specs.Reservoirs.{counts, outputs, L};
-ghost use Rattle.orders.specs.InnerPasses.{outs, scan_of, rank_of, wide_of};
+ghost use Rattle.orders.specs.InnerPasses.{outs, scan_of, rank_of, wide_of, inputs_from};
 
 use crate::layer::Layer;
 use crate::outputs::Outputs;
@@ -73,7 +73,7 @@ impl Outputs {
     // In which stretch of inputs the k-th output with top bits 00 is: stretches before it are counted whole.
     fn stretch(self, k: u32) -> Stretch
         ensures within { result.input ≤ size self.layer.number }
-        ensures length { result.input + length (up_to (below (4 ^ self.layer.number)) result.left (outs self.key self.layer.number result.input (size self.layer.number - result.input))) ≡ L self.key self.layer.number k }
+        ensures inputs { inputs_from self.key self.layer.number result.input result.left ≡ L self.key self.layer.number k }
     {
         let quarter = self.layer.quarter();
         let count = self.layer.size() / 256;
