@@ -86,7 +86,7 @@ all_made (made_next {s = s} {x = x} {xs = xs} m ms) =
     let rest = all_made ms in
     ((λ i. (e i).answer ∷ (rest.0 ∙ ap (λ (a : After State (List ℕ)). all_said a.left xs) e) i), rest.1 ∙ ap (λ (a : After State (List ℕ)). after_all a.left xs) e)
 
--- where a refusal has one of the twelve numbers, an answer is told back
+-- where a refusal has one of the documents' numbers, an answer is told back
 abbrev pub Numbered : {A : Type 0} → Answer A → Type 0
 Numbered (refusal c) = number (refusal_of c) ≡ c
 Numbered (result x) = Unit {0}
