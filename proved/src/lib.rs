@@ -2,7 +2,7 @@
 
 mod raw;
 
-/// A refusal, by document 01's number.
+/// A refusal, by the documents' number.
 #[derive(Clone, Copy, Debug, PartialEq, Eq)]
 pub struct Refused(pub u32);
 
