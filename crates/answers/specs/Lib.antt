@@ -4,3 +4,4 @@ pub mod Refusing
 pub mod Steps
 pub mod Making
 pub mod RefusedBy
+pub mod Texts

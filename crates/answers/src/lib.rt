@@ -78,6 +78,11 @@ pub fn short_refusal(limit: u64, least: u64, k: u64, n: u64) -> Refusal
 }
 
 impl fmt::Display for Refusal {
+    ghost use Rattle.std.specs.Prelude.{Some};
+    ghost use Rattle.answers.specs.Texts.{refusal_text};
+
+    ghost output = { λ why. Some (refusal_text why) };
+
     fn fmt<W: fmt::Write>(&self, f: &mut fmt::Formatter<W>) -> fmt::Result {
         f.write_str(match self {
             Refusal::NAboveLimit => "n is above the limit",

@@ -34,6 +34,10 @@ pub order_refuses : (n key : ℕ) → Among order_refusals (Order.new_call n key
 unfolding Order.new_call has same
 order_refuses n key = by_cond (Among order_refusals) (ltb (2 ^ 30) n) _ _ (λ above. refl) (λ not. tt)
 
+pub started_refuses : (n key : ℕ) → Among order_refusals (Order.started_call n key).answer
+unfolding Order.started_call has same
+started_refuses n key = by_cond (λ (a : After ConsistentPermutation (Unit {0})). Among order_refusals a.answer) (ltb (2 ^ 30) n) _ _ (λ above. refl) (λ not. tt)
+
 pub place_refuses : (key n v : ℕ) → Among place_refusals (place_call key n v)
 unfolding place_call has same
 place_refuses key n v =

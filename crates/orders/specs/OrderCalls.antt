@@ -2,7 +2,7 @@
 -- Assumes nothing.
 use Rattle.std.specs.Prelude.{Bool, cond, ◌&&◌, ◌||◌, List, ℕ, zero, suc, ◌-◌, ◌^◌, ltb, leb, eqb}
 use Rattle.std.proofs.Math.Option.{none, some}
-use Rattle.answers.specs.Answers.{Answer, refusal, result, map_answer, after, refused}
+use Rattle.answers.specs.Answers.{Answer, refusal, result, map_answer, After, after, refused}
 use Rattle.answers.specs.Steps.{Step}
 use Rattle.lists.specs.Lists.{below, zero_to, every}
 use Rattle.layers.specs.Layer.{size}
@@ -21,6 +21,12 @@ key_of o = o.master_key
 -- 1: "n above 2^30"
 unfoldable pub new_call : ℕ → ℕ → Answer ConsistentPermutation
 new_call n key = cond (ltb (2 ^ 30) n) (refusal 1) (result (order_of key n none_counted))
+
+-- the same, and the order that is left. The order beside a refusal is the empty one.
+unfoldable pub started_call : ℕ → ℕ → After ConsistentPermutation (Unit {0})
+started_call n key =
+    cond (ltb (2 ^ 30) n) (after (refusal 1) (order_of key 0 none_counted))
+    (after (result tt) (order_of key n none_counted))
 
 -- ---- next
 

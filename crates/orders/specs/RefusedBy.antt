@@ -4,7 +4,7 @@ use Rattle.std.specs.Prelude.{List, [], ◌∷◌, ℕ}
 
 -- ---- orders
 
--- `ConsistentPermutation::new`. 1: "n above 2^30 (orders, reservoirs, rounds)"
+-- `ConsistentPermutation::new` and `started`. 1: "n above 2^30 (orders, reservoirs, rounds)"
 abbrev pub order_refusals : List ℕ
 order_refusals = 1 ∷ []
 

@@ -4,7 +4,7 @@ ghost use Rattle.answers.specs.Refusals.{answer_of, answer_of_option};
 ghost use Rattle.layers.specs.Layer.{size};
 ghost use Rattle.orders.specs.Orders.{layer_of, counter};
 ghost use Rattle.answers.specs.Answers.{after};
-ghost use Rattle.orders.specs.OrderCalls.{new_call, within, first_of, next_call, tested};
+ghost use Rattle.orders.specs.OrderCalls.{new_call, started_call, within, first_of, next_call, tested};
 ghost use Rattle.orders.specs.InnerCounters.{lower_step};
 
 use crate::counters;
@@ -36,6 +36,21 @@ impl ConsistentPermutation {
             n,
             counters: [0; 15],
         })
+    }
+
+    // The same, for whoever keeps an order in any case: beside a refusal stands the empty order under the key.
+    pub fn started(n: u32, key: u64) -> (Self, Result<(), Refusal>)
+        ensures { after (answer_of result.1) result.0 ≡ started_call n key }
+    {
+        let empty = ConsistentPermutation {
+            master_key: key,
+            n: 0,
+            counters: [0; 15],
+        };
+        if Self::N_LIMIT < n {
+            return (empty, Err(Refusal::NAboveLimit));
+        }
+        (ConsistentPermutation { n, ..empty }, Ok(()))
     }
 
     // The next number, which moves the order on. A counter above its size, or met at it in a descent: refused 12; n above 2^30:
