@@ -23,6 +23,7 @@ mod round_sets;
 mod slot_sets;
 mod wrong_answers;
 
+use std::io::Write;
 use std::path::Path;
 
 use cases::Case;
@@ -259,6 +260,10 @@ fn main() {
                 std::process::exit(2);
             };
             file.iter().for_each(|line| println!("{line}"));
+            if name == WRONG {
+                let mut out = std::io::stdout();
+                out.write_all(wrong_answers::PASSED_OVER).expect("written");
+            }
         }
     }
 }

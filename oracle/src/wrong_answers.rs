@@ -37,6 +37,9 @@ fn changed(line: &str, which: usize, bit: u64) -> String {
 /// Lines that have no answer and are differences all the same: a name that nothing has, and a call before the end with no answer after it.
 pub const UNANSWERED: [&str; 2] = ["no_such_call 1", "splitmix64 1"];
 
+/// What a replay passes over at the end of that file: a line on how answers were made, in bytes that are no text, and what has no line feed.
+pub const PASSED_OVER: &[u8] = b"# \xFF\nno_such_call 1";
+
 pub fn lines(cases: &[Case]) -> Vec<String> {
     let mut lines = Vec::new();
     for (i, (_, case)) in shortest(cases).into_iter().enumerate() {
