@@ -13,7 +13,7 @@ use Rattle.lists.specs.Lists.{written}
 use Rattle.lists.proofs.Tests.{by_below}
 use Rattle.fields.specs.Printing.{decimal_of}
 use Rattle.fields.specs.Texts.{Put}
-use Rattle.fields.proofs.DecimalLaws.{decimal_one, decimal_snoc}
+use Rattle.fields.proofs.DecimalLaws.{decimal_one, decimal_snoc, decimal_pos}
 
 -- ---- one text after another
 
@@ -174,3 +174,20 @@ spelling_end n list left s = sym (s.digits ∙ ap (λ (f : List ℕ). f ++ list)
     nothing : (f : List ℕ) → 0 ≡ length f → f ≡ []
     nothing [] e = refl
     nothing (x ∷ f) e = absurd (omega arith)
+
+-- the first digit is what is left
+spelling_left : (n : ℕ) (list : List ℕ) (left : ℕ) → Spelling n list 1 left → left < 10 ^ 10 → left < 10
+spelling_left n list left s h =
+    by_below left 10
+    (λ l. l)
+    (λ l. absurd (omega (arith, s.place, ap length (s.more (omega arith)), ap length (decimal_snoc left l h), length-append (decimal_of (left / 10)) ((48 + left % 10) ∷ []), decimal_pos (left / 10))))
+
+pub spelling_first : (n : ℕ) (list : List ℕ) (i left : ℕ) → Spelling n list i left → i ≡ 1 → left < 10 ^ 10 → left < 10
+spelling_first n list i left s e h = spelling_left n list left (subst (λ (k : ℕ). Spelling n list k left) e s) h
+
+pub spelling_list : (n : ℕ) (list : List ℕ) (i left : ℕ) → Spelling n list i left → i ≡ 1 → 0 < length list → left < 10 ^ 10 → set list 0 (48 + left) ≡ decimal_of n
+spelling_list n list i left s e p h =
+    let small : left < 10 = spelling_first n list i left s e h in
+    let one : Spelling n list 1 left = subst (λ (k : ℕ). Spelling n list k left) e s in
+    let digit : left % 10 ≡ left = omega arith in
+    ap (λ (d : ℕ). set list 0 (48 + d)) (sym digit) ∙ spelling_end n (set list 0 (48 + left % 10)) (left / 10) (spelling_more n list 1 left one (omega arith) (omega arith) h)

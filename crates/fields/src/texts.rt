@@ -2,25 +2,39 @@
 ghost use Rattle.std.specs.Prelude.{◌≡◌, ◌++◌, ◌∷◌, [], ◌≤◌, ◌+◌, length};
 ghost use Rattle.fields.specs.Printing.{decimal_of, tabbed, line_end, spell_capitals, key_text, capital_digit};
 
-// How many digits a number has.
+// How many digits a number has. By comparisons and not by `ilog10`, which has no branch: that a processor has seen how many digits
+// there are is why it foresees the end of `spell`.
 fn digits(n: u32) -> usize
     ensures count { result ≡ length (decimal_of n) }
     ensures few { result ≤ 10 }
 {
-    n.max(1).ilog10() as usize + 1
+    match n {
+        0..=9 => 1,
+        10..=99 => 2,
+        100..=999 => 3,
+        1_000..=9_999 => 4,
+        10_000..=99_999 => 5,
+        100_000..=999_999 => 6,
+        1_000_000..=9_999_999 => 7,
+        10_000_000..=99_999_999 => 8,
+        100_000_000..=999_999_999 => 9,
+        _ => 10,
+    }
 }
 
-// Writes a number in decimal, without leading zeros, over as many places as it has digits: from the last to the first. By hand,
-// since of std's printing a proof knows what it puts only where that is a String, which needs a heap.
+// Writes a number in decimal, without leading zeros, over as many places as it has digits: from the last to the first, which is
+// left of it and wants no division. By hand, since of std's printing a proof knows what it puts only where that is a String, which
+// needs a heap.
 fn spell(places: &mut [u8], n: u32)
     requires { length places.old ≡ length (decimal_of n) }
     ensures { places.new ≡ decimal_of n }
 {
     let mut left = n;
-    for i in (0..places.len()).rev() {
+    for i in (1..places.len()).rev() {
         places[i] = b'0' + (left % 10) as u8;
         left /= 10;
     }
+    places[0] = b'0' + left as u8;
 }
 
 // A digit of base 16 in capitals.
@@ -57,7 +71,7 @@ pub struct Text<'a> {
 // What there is room for. `SameList` in each contract: a struct's field that is `&mut` could be another list after a call, so each
 // says that it is the same.
 impl Text<'_> {
-    ghost use Rattle.fields.specs.Texts.{HasRoom, SameList, Puts};
+    ghost use Rattle.fields.specs.Texts.{HasRoom, SameList, Put, Puts};
 
     fn write_byte(&mut self, byte: u8)
         requires { HasRoom self.old 1 }
@@ -108,15 +122,27 @@ impl Text<'_> {
         self.write_byte(b'\n');
     }
 
+    // Three numbers and the line's end from a place on, and the place after them. In a text of its own: a byte that is written to one
+    // that is lent could be its length's, so that length and list would be read anew after each byte.
+    fn three_from(out: &mut [u8], at: usize, a: u32, b: u32, c: u32) -> usize
+        requires { at + 33 ≤ length out.old }
+        ensures within { result ≤ length out.new }
+        ensures puts { Put out.old at (decimal_of a ++ tabbed b ++ tabbed c ++ line_end) out.new result }
+    {
+        let mut line = Text { out, len: at };
+        line.write_number(a);
+        line.write_tabbed(b);
+        line.write_tabbed(c);
+        line.write_byte(b'\n');
+        line.len
+    }
+
     fn write_three(&mut self, a: u32, b: u32, c: u32)
         requires { HasRoom self.old 33 }
         ensures lent { SameList self.old self.new }
         ensures puts { Puts self.old (decimal_of a ++ tabbed b ++ tabbed c ++ line_end) self.new }
     {
-        self.write_number(a);
-        self.write_tabbed(b);
-        self.write_tabbed(c);
-        self.write_byte(b'\n');
+        self.len = Self::three_from(self.out, self.len, a, b, c);
     }
 }
 

@@ -51,7 +51,11 @@ pub(crate) fn gather(list: &[u32], n: u32, out: &mut [u32])
     requires { length (keep (counts n) list.now) ≤ length out.old }
     ensures { out.new ≡ written (keep (counts n) list.now) out.old }
 {
-    for (t, x) in list.iter().filter(|x| **x < n).enumerate() {
-        out[t] = *x;
+    let mut t = 0;
+    for x in list {
+        if *x < n {
+            out[t] = *x;
+            t += 1;
+        }
     }
 }

@@ -1,60 +1,59 @@
 -- `orders::fills::gather` meets its contract.
 -- Assumes nothing.
-use Rattle.std.proofs.Common.{rules, tests, ◌≡◌, ◌<◌, length, ltb}
-use mathlib.Core.List.{[], ◌∷◌}
-use lib.ListN.{set, length-append}
-use mathlib.Core.Path.{ap, sym, subst, ◌∙◌}
+use Rattle.std.proofs.Common.{◌≡◌, ◌<◌, true, false, length}
+use mathlib.Core.Path.{refl, sym, ap, ◌∙◌}
 use native.Mathlib.Omega.{arith}
-use Rattle.std.specs.List.{filter}
-use Rattle.std.specs.Iterator.Adapters.{enumerate_count}
-use Rattle.std.proofs.lemmas.Iterator.{YieldsList, YieldsList-from_slice}
-use Rattle.std.proofs.lemmas.Iterator.Consumers.{YieldsList-at, YieldsList-from_filter, YieldsList-turn, YieldsList-end}
-use Rattle.lists.specs.Lists.{keep, written}
-use Rattle.lists.proofs.Keeping.{keep_same}
+use lib.ListN.{get_or, set}
+use Rattle.lists.specs.Lists.{written}
+use Rattle.lists.proofs.Writing.{length_written}
+use Rattle.lists.proofs.Prefixes.{keep_take_le}
 use Rattle.orders.specs.Reservoirs.{counts}
-use Rattle.orders.proofs.CountsLaws.{counts_ltb}
-use Rattle.orders.proofs.GatherLaws.{came_none, came_length, came_more, filter_is_keep, values_yielded}
-use Rattle.orders.proofs.fills.gather.Given as given
+use Rattle.orders.proofs.CountsLaws.{counts_yes, counts_no}
+use Rattle.orders.proofs.GatherLaws.{gathered, gather_no, gather_count, gather_room, gather_put}
 use Rattle.orders.proofs.fills.gather.Goals as goal
-use Rattle.orders.proofs.fills.gather.Goals.{At-loop-t, In-Some}
+use Rattle.orders.proofs.fills.gather.Goals.{At-loop-x, Then-x-n, then-x-n, else-x-n}
 
--- the numbers of the sample come
-road : (c : At-loop-t) → YieldsList given.iterator-loop-t.next_gives (λ p. p.1.now) c.into_iter-t-iterator.result (keep (counts c.args.n) c.args.list.now)
-road c =
-    let all : YieldsList given.iterator-loop-t.next_gives (λ p. p.1.now) c.enumerate-t-items.result (filter (λ x. ltb x c.args.n) c.args.list.now)
-    = values_yielded _ (λ x. x.now) _ c.enumerate-t-items.result
-    (YieldsList-at c.enumerate-t-items.ensures.source
-    (YieldsList-from_filter _ (λ x. ltb x c.args.n) (YieldsList-from_slice c.args.list.now cc) c.filter.ensures.closure (λ x r q k. search (rules, tests)))) in
-    YieldsList-at c.into_iter-t-iterator.ensures.into_iter_gives (subst (YieldsList _ (λ p. p.1.now) c.enumerate-t-items.result) (filter_is_keep (λ x. ltb x c.args.n) c.args.list.now ∙ keep_same _ (counts c.args.n) (λ x. sym (counts_ltb c.args.n x)) c.args.list.now) all)
+-- the number belongs to the sample, and there is room for it
+counts_it : (c : Then-x-n) → counts c.args.n (get_or c.args.list.now c.loop-x.x-index 0) ≡ true
+counts_it c = counts_yes _ _ c.if-x-n.true
 
--- there is room for one more
-room : (c : In-Some) → length c.loop-t.yielded < length c.args.out.now
+room : (c : Then-x-n) → c.loop-x.t < length c.args.out.now
 room c =
-    let l = c.loop-t in
-    let x = c.in-Some in
-    let r = YieldsList-turn (road (goal.at.In-Some c).At-loop-t) l.yielded l.t-iterator l.yielded_by _ c.next.new.self (x.t, x.x) x.is c.next.ensures.steps in
-    omega (arith, r.0, c.requires)
+    let l = c.loop-x in
+    omega (arith, l.invariant.0, gather_room (counts c.args.n) c.args.list.now c.args.out.now c.requires l.x-index c.loop-x-test.true (counts_it c))
 
-pub loop-t-init : goal.loop-t-init
-loop-t-init c = (ap enumerate_count c.into_iter-t-iterator.ensures.into_iter_gives ∙ c.enumerate-t-items.ensures.count, came_none c.args.out.now)
+long : (c : At-loop-x) → length c.loop-x.out ≡ length c.args.out.now
+long c =
+    let l = c.loop-x in
+    ap length l.invariant.1 ∙ length_written (gathered (counts c.args.n) c.args.list.now l.x-index) c.args.out.now (omega (arith, keep_take_le (counts c.args.n) l.x-index c.args.list.now, c.requires))
+
+pub loop-x-init : goal.loop-x-init
+unfolding written
+loop-x-init c = (refl, refl)
+
+pub offset_bounds-out-t : goal.offset_bounds-out-t
+offset_bounds-out-t c = omega (arith, room (goal.at.offset_bounds-out-t c).Then-x-n)
 
 pub bounds-out-t : goal.bounds-out-t
-bounds-out-t c =
-    let l = c.loop-t in
-    let r = room (goal.at.bounds-out-t c).In-Some in
-    omega (arith, r, ap length l.invariant.1, came_length l.yielded c.args.out.now r, l.invariant.0, c.in-Some.ensures.steps.1)
+bounds-out-t c = omega (arith, room (goal.at.bounds-out-t c).Then-x-n, long (goal.at.bounds-out-t c).At-loop-x)
 
-pub loop-t-preserved : goal.loop-t-preserved
-loop-t-preserved c =
-    let l = c.loop-t in
-    let r = room (goal.at.loop-t-preserved c).In-Some in
-    let t : c.in-Some.t ≡ length l.yielded = c.in-Some.ensures.steps.1 ∙ l.invariant.0 in (
-      c.in-Some.ensures.steps.2 ∙ omega (arith, l.invariant.0, length-append l.yielded ((c.in-Some.t, c.in-Some.x) ∷ [])),
-      ap (λ r. set r c.in-Some.t c.in-Some.x.now) l.invariant.1 ∙ came_more l.yielded c.args.out.now r c.in-Some.t c.in-Some.x t,
-    )
+pub overflow_add-t : goal.overflow_add-t
+overflow_add-t c = omega (arith, room (goal.at.overflow_add-t c).Then-x-n)
 
-pub returns : goal.returns
-returns c =
-    let l = c.loop-t in
-    let e = YieldsList-end (road (goal.at.returns c).At-loop-t) l.yielded l.t-iterator l.yielded_by _ c.next.new.self c.in-None.is c.next.ensures.steps in
-    l.invariant.1 ∙ ap (λ r. written r c.args.out.now) e.0
+pub loop-x-preserved : goal.loop-x-preserved
+loop-x-preserved c =
+    let l = c.loop-x in
+    let p = counts c.args.n in
+    let xs = c.args.list.now in
+    let old = c.args.out.now in
+    elim c.if-x-n.branch [
+      | then-x-n w ↦
+          let yes : p (get_or xs l.x-index 0) ≡ true = counts_yes _ _ w.if-x-n.true in (
+            w.t-is ∙ omega (arith, l.invariant.0, gather_count p xs old c.requires l.x-index c.loop-x-test.true yes),
+            w.out-is ∙ ap (λ r. set r l.t (get_or xs l.x-index 0)) l.invariant.1 ∙ gather_put p xs old c.requires l.x-index c.loop-x-test.true l.t yes l.invariant.0,
+          )
+      | else-x-n w ↦
+          let no : p (get_or xs l.x-index 0) ≡ false = counts_no _ _ (omega (arith, w.if-x-n.false)) in
+          let same = gather_no p xs old c.requires l.x-index c.loop-x-test.true no in
+          (w.t-is ∙ l.invariant.0 ∙ ap length (sym same), w.out-is ∙ l.invariant.1 ∙ ap (λ r. written r old) (sym same))
+    ]

@@ -1,9 +1,10 @@
--- `fields::texts::Text::write_three` meets its contract.
+-- `fields::texts::Text::three_from` meets its contract.
 -- Assumes nothing.
 use native.Mathlib.Omega.{arith}
+use borrow.Author.Rules.{rules}
 use Rattle.fields.proofs.DecimalLaws.{length_decimal, length_tabbed}
 use Rattle.fields.proofs.PutLaws.{put_then}
-use Rattle.fields.proofs.texts.Text.write_three.Goals as goal
+use Rattle.fields.proofs.texts.Text.three_from.Goals as goal
 
 pub write_tabbed-requires : goal.write_tabbed-requires
 write_tabbed-requires c = let a = c.args in omega (arith, length_decimal a.a)
@@ -16,4 +17,6 @@ write_byte-requires c = let a = c.args in omega (arith, length_decimal a.a, leng
 
 pub returns-clause-puts : goal.returns-clause-puts
 returns-clause-puts c =
-    put_then (put_then (put_then c.write_number.ensures.puts c.write_tabbed.ensures.puts) c.write_tabbed-2.ensures.puts) c.write_byte.ensures.puts
+    let all =
+    put_then (put_then (put_then c.write_number.ensures.puts c.write_tabbed.ensures.puts) c.write_tabbed-2.ensures.puts) c.write_byte.ensures.puts in
+    search rules
