@@ -1,6 +1,6 @@
 // Lists written in place, from the back, with no scratch.
-ghost use Rattle.std.specs.Prelude.{◌≡◌, ◌^◌, ◌≤◌, length};
-ghost use Rattle.lists.specs.Lists.{keep, written};
+ghost use Rattle.std.specs.Prelude.{◌≡◌, ◌^◌, ◌≤◌, length, ◌<◌};
+ghost use Rattle.lists.specs.Lists.{keep, written, last};
 ghost use Rattle.layers.specs.Layer.{size};
 ghost use Rattle.orders.specs.Reservoirs.{counts};
 ghost use Rattle.orders.specs.InnerPasses.{rank_of, laid_of, arranged_over};
@@ -46,16 +46,16 @@ pub(crate) fn lay(m: u32, key: u64, list: &mut [u32])
     cover(outputs, t, list);
 }
 
-// The listed numbers below n, in order, over another list.
+// The listed numbers below n, in order, over another list. Each number is written, and the next one over it where it is none of
+// them: there is no branch, which a processor would not foresee. So the last has to be one of them.
 pub(crate) fn gather(list: &[u32], n: u32, out: &mut [u32])
-    requires { length (keep (counts n) list.now) ≤ length out.old }
+    requires room { length (keep (counts n) list.now) ≤ length out.old }
+    requires ends { last list.now < n }
     ensures { out.new ≡ written (keep (counts n) list.now) out.old }
 {
     let mut t = 0;
     for x in list {
-        if *x < n {
-            out[t] = *x;
-            t += 1;
-        }
+        out[t] = *x;
+        t += usize::from(*x < n);
     }
 }

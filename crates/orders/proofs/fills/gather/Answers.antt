@@ -1,44 +1,40 @@
 -- `orders::fills::gather` meets its contract.
 -- Assumes nothing.
-use Rattle.std.proofs.Common.{◌≡◌, ◌<◌, true, false, length}
-use mathlib.Core.Path.{refl, sym, ap, ◌∙◌}
+use Rattle.std.proofs.Common.{◌≡◌, ◌<◌, ◌+◌, length}
+use mathlib.Core.Path.{sym, ap, ◌∙◌}
+use mathlib.Core.Bool.{cond}
 use native.Mathlib.Omega.{arith}
+use lib.Dec.{ltb}
 use lib.ListN.{get_or, set}
-use Rattle.lists.specs.Lists.{written}
-use Rattle.lists.proofs.Writing.{length_written}
-use Rattle.lists.proofs.Prefixes.{keep_take_le}
 use Rattle.orders.specs.Reservoirs.{counts}
-use Rattle.orders.proofs.CountsLaws.{counts_yes, counts_no}
-use Rattle.orders.proofs.GatherLaws.{gathered, gather_no, gather_count, gather_room, gather_put}
+use Rattle.orders.proofs.CountsLaws.{counts_ltb}
+use Rattle.orders.proofs.ScanLaws.{more_is, test_le}
+use Rattle.orders.proofs.GatherLaws.{gathered, gather_count, gather_room, gather_turn, gather_end, gather_ends, led_length}
 use Rattle.orders.proofs.fills.gather.Goals as goal
-use Rattle.orders.proofs.fills.gather.Goals.{At-loop-x, Then-x-n, then-x-n, else-x-n}
+use Rattle.orders.proofs.fills.gather.Goals.{In-loop-x}
 
--- the number belongs to the sample, and there is room for it
-counts_it : (c : Then-x-n) → counts c.args.n (get_or c.args.list.now c.loop-x.x-index 0) ≡ true
-counts_it c = counts_yes _ _ c.if-x-n.true
-
-room : (c : Then-x-n) → c.loop-x.t < length c.args.out.now
+room : (c : In-loop-x) → c.loop-x.t < length c.args.out.now
 room c =
     let l = c.loop-x in
-    omega (arith, l.invariant.0, gather_room (counts c.args.n) c.args.list.now c.args.out.now c.requires l.x-index c.loop-x-test.true (counts_it c))
-
-long : (c : At-loop-x) → length c.loop-x.out ≡ length c.args.out.now
-long c =
-    let l = c.loop-x in
-    ap length l.invariant.1 ∙ length_written (gathered (counts c.args.n) c.args.list.now l.x-index) c.args.out.now (omega (arith, keep_take_le (counts c.args.n) l.x-index c.args.list.now, c.requires))
-
-pub loop-x-init : goal.loop-x-init
-unfolding written
-loop-x-init c = (refl, refl)
+    omega (arith, l.invariant.0, gather_room (counts c.args.n) c.args.list.now c.args.out.now c.requires.room (gather_ends _ _ c.requires.ends) l.x-index c.loop-x-test.true)
 
 pub offset_bounds-out-t : goal.offset_bounds-out-t
-offset_bounds-out-t c = omega (arith, room (goal.at.offset_bounds-out-t c).Then-x-n)
+offset_bounds-out-t c = omega (arith, room (goal.at.offset_bounds-out-t c).In-loop-x)
 
 pub bounds-out-t : goal.bounds-out-t
-bounds-out-t c = omega (arith, room (goal.at.bounds-out-t c).Then-x-n, long (goal.at.bounds-out-t c).At-loop-x)
+bounds-out-t c =
+    let l = c.loop-x in
+    omega (
+      arith,
+      room (goal.at.bounds-out-t c).In-loop-x,
+      ap length l.invariant.1,
+      led_length (counts c.args.n) c.args.list.now c.args.out.now c.requires.room (gather_ends _ _ c.requires.ends) l.x-index (omega arith),
+    )
 
 pub overflow_add-t : goal.overflow_add-t
-overflow_add-t c = omega (arith, room (goal.at.overflow_add-t c).Then-x-n)
+overflow_add-t c =
+    let x = get_or c.args.list.now c.loop-x.x-index 0 in
+    omega (arith, room (goal.at.overflow_add-t c).In-loop-x, c.from-t.ensures, test_le (ltb x c.args.n))
 
 pub loop-x-preserved : goal.loop-x-preserved
 loop-x-preserved c =
@@ -46,14 +42,14 @@ loop-x-preserved c =
     let p = counts c.args.n in
     let xs = c.args.list.now in
     let old = c.args.out.now in
-    elim c.if-x-n.branch [
-      | then-x-n w ↦
-          let yes : p (get_or xs l.x-index 0) ≡ true = counts_yes _ _ w.if-x-n.true in (
-            w.t-is ∙ omega (arith, l.invariant.0, gather_count p xs old c.requires l.x-index c.loop-x-test.true yes),
-            w.out-is ∙ ap (λ r. set r l.t (get_or xs l.x-index 0)) l.invariant.1 ∙ gather_put p xs old c.requires l.x-index c.loop-x-test.true l.t yes l.invariant.0,
-          )
-      | else-x-n w ↦
-          let no : p (get_or xs l.x-index 0) ≡ false = counts_no _ _ (omega (arith, w.if-x-n.false)) in
-          let same = gather_no p xs old c.requires l.x-index c.loop-x-test.true no in
-          (w.t-is ∙ l.invariant.0 ∙ ap length (sym same), w.out-is ∙ l.invariant.1 ∙ ap (λ r. written r old) (sym same))
-    ]
+    let x = get_or xs l.x-index 0 in
+    let count : l.t + c.from-t.result ≡ length (gathered p xs (l.x-index + 1)) =
+    ap (λ k. l.t + k) c.from-t.ensures ∙ more_is (ltb x c.args.n) l.t ∙ ap (λ k. cond (ltb x c.args.n) (k + 1) k) l.invariant.0
+    ∙ ap (λ b. cond b (length (gathered p xs l.x-index) + 1) (length (gathered p xs l.x-index))) (sym (counts_ltb c.args.n x))
+    ∙ sym (gather_count p xs old l.x-index c.loop-x-test.true) in
+    (count, ap (λ r. set r l.t x) l.invariant.1 ∙ gather_turn p xs old c.requires.room (gather_ends _ _ c.requires.ends) l.x-index l.t c.loop-x-test.true l.invariant.0)
+
+pub returns : goal.returns
+returns c =
+    let l = c.loop-x in
+    l.invariant.1 ∙ gather_end (counts c.args.n) c.args.list.now c.args.out.now c.requires.room (gather_ends _ _ c.requires.ends) l.x-index (omega arith)
