@@ -59,13 +59,13 @@ pub length_place : (i : ℕ) (s : Sheet) → length (place_line i s) ≤ 33
 unfolding place_line
 length_place i s = simp length-append (omega (arith, length_decimal i, length_tabbed s.location, length_slot s.terminal))
 
-length_lines : (ps : List (ℕ × (ℕ × ℕ))) → length (lines ps) ≤ 33 * length ps
+pub length_lines : (ps : List (ℕ × (ℕ × ℕ))) → length (lines ps) ≤ 33 * length ps
 length_lines [] = omega arith
 length_lines (p ∷ ps) =
     let s = sheet p.1.0 (some p.1.1) in
     omega (arith, length-append (place_line p.0 s) (lines ps), length_place p.0 s, length_lines ps)
 
-length_plan : (k : ℕ) (ls ts : List ℕ) → length (place_lines 0 (sheets (take k ls) (take k ts))) ≤ 33 * length ls
+pub length_plan : (k : ℕ) (ls ts : List ℕ) → length (place_lines 0 (sheets (take k ls) (take k ts))) ≤ 33 * length ls
 length_plan k ls ts =
     let ps = zip (range_with_len 0 k) (zip ls ts) in
     omega (arith, ap length (lines_zip 0 k ls ts), length_lines ps, length_places_zip (range_with_len 0 k) ls ts)

@@ -51,44 +51,50 @@ module _ (p : ℕ → Bool) (list old : List ℕ) where
       (λ y. rw y (ap length (gather_yes i lt y) ∙ length-append (gathered p list i) (get_or list i 0 ∷ [])))
       (λ n. rw n (ap length (gather_no i lt n)))
 
+  -- there is room for a number of the sample,
+  pub gather_room : length (keep p list) ≤ length old → (i : ℕ) → i < length list → p (get_or list i 0) ≡ true → length (gathered p list i) < length old
+  gather_room room i lt y =
+      let on : length (gathered p list (i + 1)) ≡ length (gathered p list i) + 1 = ap length (gather_yes i lt y) ∙ length-append (gathered p list i) (get_or list i 0 ∷ []) in
+      omega (arith, on, keep_take_le p (i + 1) list)
+
+  -- and for every other, where the last is of the sample
   module _ (room : length (keep p list) ≤ length old) (ends : p (get_or list (length list - 1) 0) ≡ true) where
-    pub gather_room : (i : ℕ) → i < length list → length (gathered p list i) < length old
-    gather_room i lt =
+    pub led_room : (i : ℕ) → i < length list → length (gathered p list i) < length old
+    led_room i lt =
         let m = length list - 1 in
         let same : take i (take m list) ≡ take i list = take-take i m list (omega arith) in
         let before : length (gathered p list i) ≤ length (gathered p list m) = rw same at (keep_take_le p i (take m list)) in
-        let last : length (gathered p list (m + 1)) ≡ length (gathered p list m) + 1 = ap length (gather_yes m (omega arith) ends) ∙ length-append (gathered p list m) (get_or list m 0 ∷ []) in
-        omega (arith, before, last, keep_take_le p (m + 1) list)
+        omega (arith, before, gather_room room m (omega arith) ends)
 
     pub led_length : (i : ℕ) → i ≤ length list → length (led p list old i) ≡ length old
     led_length zero h = refl
-    led_length (suc j) h = length_written (gathered p list j ++ (get_or list j 0 ∷ [])) old (omega (arith, gather_room j (omega arith), length_snoc (gathered p list j) (get_or list j 0)))
+    led_length (suc j) h = length_written (gathered p list j ++ (get_or list j 0 ∷ [])) old (omega (arith, led_room j (omega arith), length_snoc (gathered p list j) (get_or list j 0)))
 
     step : (i t : ℕ) → i < length list → t ≡ length (gathered p list i) → set (led p list old i) t (get_or list i 0) ≡ led p list old (suc i)
     unfolding written
-    step zero t lt e = written_more [] old t (get_or list zero 0) e (omega (arith, e, gather_room zero lt))
+    step zero t lt e = written_more [] old t (get_or list zero 0) e (omega (arith, e, led_room zero lt))
     step (suc j) t lt e =
         let x = get_or list (suc j) 0 in
         let y = get_or list j 0 in
         by_test (p y)
         (λ is. let on : gathered p list (suc j) ≡ gathered p list j ++ (y ∷ []) = rw (add-one j) at (gather_yes j (omega arith) is) in
-        ap (λ (r : List ℕ). set (written r old) t x) (sym on) ∙ written_more (gathered p list (suc j)) old t x e (omega (arith, e, gather_room (suc j) lt)))
+        ap (λ (r : List ℕ). set (written r old) t x) (sym on) ∙ written_more (gathered p list (suc j)) old t x e (omega (arith, e, led_room (suc j) lt)))
         (λ no. let on : gathered p list (suc j) ≡ gathered p list j = rw (add-one j) at (gather_no j (omega arith) no) in
         again (gathered p list j) old t x y (e ∙ ap length on) ∙ ap (λ (r : List ℕ). written (r ++ (x ∷ [])) old) (sym on))
 
-    pub gather_turn : (i t : ℕ) → i < length list → t ≡ length (gathered p list i) → set (led p list old i) t (get_or list i 0) ≡ led p list old (i + 1)
-    gather_turn i t lt e = step i t lt e ∙ ap (led p list old) (sym (add-one i))
+    pub led_turn : (i t : ℕ) → i < length list → t ≡ length (gathered p list i) → set (led p list old i) t (get_or list i 0) ≡ led p list old (i + 1)
+    led_turn i t lt e = step i t lt e ∙ ap (led p list old) (sym (add-one i))
 
-    pub gather_end : (i : ℕ) → i ≡ length list → led p list old i ≡ written (keep p list) old
+    pub led_end : (i : ℕ) → i ≡ length list → led p list old i ≡ written (keep p list) old
     unfolding written
-    gather_end zero e = ap (λ (l : List ℕ). written (keep p l) old) (take_all zero list (omega arith))
-    gather_end (suc j) e =
+    led_end zero e = ap (λ (l : List ℕ). written (keep p l) old) (take_all zero list (omega arith))
+    led_end (suc j) e =
         let all : take (suc j) list ≡ list = take_all (suc j) list (omega arith) in
         let same : get_or list j 0 ≡ get_or list (length list - 1) 0 = ap (λ (k : ℕ). get_or list k 0) (omega arith) in
         let on : gathered p list (suc j) ≡ gathered p list j ++ (get_or list j 0 ∷ []) = rw (add-one j) at (gather_yes j (omega arith) (ap p same ∙ ends)) in
         ap (λ (r : List ℕ). written r old) (sym on ∙ ap (keep p) all)
 
 -- "the last below n"
-pub gather_ends : (n : ℕ) (list : List ℕ) → last list < n → counts n (get_or list (length list - 1) 0) ≡ true
+pub led_ends : (n : ℕ) (list : List ℕ) → last list < n → counts n (get_or list (length list - 1) 0) ≡ true
 unfolding last
-gather_ends n list h = counts_yes _ n h
+led_ends n list h = counts_yes _ n h

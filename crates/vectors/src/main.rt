@@ -67,7 +67,7 @@ impl Reading {
 fn replayed<F: Read>(alloc: Global, file: &mut F) -> io::Result<Tally> {
     let mut piece = piece();
     let mut reading = Reading {
-        line: Line::new(),
+        line: Line::new(alloc),
         replay: Replay::new(alloc),
         tally: Tally::new(),
     };
